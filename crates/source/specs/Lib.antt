@@ -1,0 +1,5 @@
+pub mod Utf8
+pub mod Admission
+pub mod Places
+pub mod Sources
+pub mod Cursors

@@ -1,0 +1,7 @@
+use mathlib.Core.Path.{sym, _∙_}
+use native.Mathlib.Omega.{arith}
+use Rattle.std.proofs.shelf.Lists.{length-take}
+use Rattle.stack.proofs.record.Stack.len.Needs as need
+
+pub returns : need.returns
+returns g c = omega (arith, length-take (c .args .self .now .count) (c .args .self .now .slots .now))

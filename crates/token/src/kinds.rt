@@ -1,0 +1,82 @@
+ghost use mathlib.Core.Path.{_≡_};
+ghost use Rattle.std.specs.Orderings.{Decides};
+
+// Every kind of token that is handed out.
+#[derive(Clone, Copy)]
+pub enum TokenKind {
+    AmpersandAmpersand,
+    Asterisk,
+    At,
+    Backtick,
+    Bang,
+    BangEquals,
+    BangTilde,
+    BarBar,
+    BraceL,
+    BraceR,
+    BracketL,
+    BracketR,
+    ByteOrderMark,
+    Colon,
+    ColonColon,
+    ColonEquals,
+    Comma,
+    Comment,
+    Dedent,
+    Dollar,
+    Eof,
+    Eol,
+    Equals,
+    EqualsEquals,
+    EqualsTilde,
+    FormatStringContinue,
+    FormatStringEnd,
+    FormatStringStart,
+    Identifier,
+    Indent,
+    InterpolationEnd,
+    InterpolationStart,
+    ParenL,
+    ParenR,
+    Plus,
+    PlusPlus,
+    QuestionMark,
+    Slash,
+    StringToken,
+    Text,
+    Whitespace,
+}
+
+pub impl PartialEq<TokenKind> for TokenKind as TokenKindPartialEq {
+    ghost equals = { λ x y r. Decides r (x ≡ y) };
+
+    fn eq(&self, other: &TokenKind) -> bool {
+        *self as u8 == *other as u8
+    }
+}
+
+pub impl Eq for TokenKind as TokenKindEq {}
+
+// What quotes a string.
+#[derive(Clone, Copy, PartialEq, Eq)]
+pub enum StringDelimiter {
+    Backtick,
+    QuoteDouble,
+    QuoteSingle,
+}
+
+// How a string is quoted: by which character, and by three of them (`indented`) or by one.
+#[derive(Clone, Copy, PartialEq, Eq)]
+pub struct StringKind {
+    pub delimiter: StringDelimiter,
+    pub indented: bool,
+}
+
+// What is open until its closing counterpart comes.
+#[derive(Clone, Copy, PartialEq, Eq)]
+pub enum Delimiter {
+    Brace,
+    Bracket,
+    FormatString(StringKind),
+    Paren,
+}
