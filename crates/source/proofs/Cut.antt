@@ -13,9 +13,9 @@ use Rattle.token.specs.Told.{gave, refusedOver}
 use Rattle.token.specs.declared.fault.Layer.the-variants as layer
 use Rattle.token.specs.declared.place.Token.{Token}
 use Rattle.source.specs.Sources.{part, cuts, lexemeIn, textOf}
-use Rattle.source.specs.Utf8.{wellFormed, bound}
+use Rattle.utf8.specs.Utf8.{wellFormed, bound}
 use Rattle.source.specs.declared.record.Source.{Source}
-use Rattle.source.proofs.Bad.{text-well-formed, well-formed-text, bound-boundary, boundary-bound}
+use Rattle.utf8.proofs.Bad.{text-well-formed, well-formed-text, bound-boundary, boundary-bound}
 
 -- a source's text is text
 pub source-text : (s : Source) → Utf8 (textOf s)

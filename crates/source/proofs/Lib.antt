@@ -1,5 +1,4 @@
-pub mod Grammar
-pub mod Bad
 pub mod Admits
 pub mod Cut
 pub mod Passes
+pub mod Walks

@@ -14,9 +14,9 @@ use Rattle.std.proofs.shelf.Tests.{and-parts, and-left, cond-false, ne-eqb, eqb
 use Rattle.std.proofs.shelf.Text.{length-encode, width-bounds, utf8-drop, boundary-past-char}
 use Rattle.token.specs.declared.place.Position.{Position}
 use Rattle.source.specs.Places.{none, breaks, past, walk}
-use Rattle.source.specs.Utf8.{character, bound, wellFormed}
-use Rattle.source.proofs.Bad.{bound-boundary, boundary-bound, well-formed-text}
-use Rattle.source.proofs.Grammar.{Written, in-1, in-2, in-3, in-4, written, character-encode, row-of-1}
+use Rattle.utf8.specs.Utf8.{character, bound, wellFormed}
+use Rattle.utf8.proofs.Bad.{bound-boundary, boundary-bound, well-formed-text}
+use Rattle.utf8.proofs.Rows.{Written, in-1, in-2, in-3, in-4, written, character-encode, row-of-1}
 
 -- the place n bytes on in the same line
 abbrev along : ℕ → Position → Position

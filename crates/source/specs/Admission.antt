@@ -8,7 +8,7 @@ use Rattle.std.specs.declared.option.Option.{Option}
 use Rattle.std.specs.declared.option.Option.the-variants.{Some, None}
 use Rattle.token.specs.Told.{Told, gave, refused}
 use Rattle.token.specs.declared.fault.Layer.the-variants as layer
-use Rattle.source.specs.Utf8.{firstBad}
+use Rattle.utf8.specs.Utf8.{firstBad}
 
 -- refused under a number by the admission: line, column and length are 0
 abbrev pub turnedAway : ℕ → ℕ → Told (Unit {0})
@@ -19,7 +19,7 @@ turnedAway number offset = refused record {
   length = 0;
   line = 0;
   column = 0;
-  needed = 0
+  needed = 0;
 }
 
 -- the encoding is looked at where the length will do

@@ -1,4 +1,3 @@
-pub mod Utf8
 pub mod Admission
 pub mod Places
 pub mod Sources

@@ -7,7 +7,7 @@ use lib.ListN.{take, drop}
 use Rattle.token.specs.Told.{Told, gave, refusedOver}
 use Rattle.token.specs.declared.fault.Layer.the-variants as layer
 use Rattle.token.specs.declared.place.Token.{Token}
-use Rattle.source.specs.Utf8.{bound}
+use Rattle.utf8.specs.Utf8.{bound}
 use Rattle.source.specs.declared.record.Source.{Source}
 
 abbrev pub textOf : Source → List ℕ

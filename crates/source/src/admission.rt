@@ -4,7 +4,6 @@ ghost use Rattle.token.specs.Told.{told};
 ghost use Rattle.source.specs.Admission.{admission, heldAfter};
 ghost use Rattle.source.specs.Sources.{textOf};
 use crate::record::Source;
-use std::str::from_utf8;
 use token::Cause;
 use token::Fault;
 use token::Layer;
@@ -29,12 +28,12 @@ impl<'a> Source<'a> {
         if bytes.len() > MAX_TEXT {
             return Err(refused(Cause::TextTooLong, 0));
         }
-        match from_utf8(bytes) {
+        match utf8::text(bytes) {
             Ok(text) => {
                 self.text = text;
                 Ok(())
             }
-            Err(e) => Err(refused(Cause::InvalidUtf8, e.valid_up_to() as u32)),
+            Err(at) => Err(refused(Cause::InvalidUtf8, at as u32)),
         }
     }
 
@@ -42,7 +41,8 @@ impl<'a> Source<'a> {
     pub fn text(&self) -> &'a str
         ensures { λ r. ⌜ now r ≡ textOf (now (self .entry)) ⌝ }
     {
-        self.text
+        let held = self.text;
+        held
     }
 }
 

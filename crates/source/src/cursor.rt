@@ -3,7 +3,7 @@ ghost use mathlib.Core.Path.{_≡_};
 ghost use Prim.Native.Nat.{_+_, _≤_};
 ghost use lib.ListN.{length};
 ghost use Rattle.source.specs.Sources.{textOf};
-ghost use Rattle.source.specs.Utf8.{bound};
+ghost use Rattle.utf8.specs.Utf8.{bound};
 use crate::record::Source;
 use token::Position;
 

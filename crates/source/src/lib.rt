@@ -9,4 +9,3 @@ mod steps;
 pub use admission::MAX_TEXT;
 pub use cursor::Cursor;
 pub use record::Source;
-pub use steps::character_length;

@@ -1,23 +1,14 @@
 ghost use mathlib.Core.Bool.{cond, not};
-ghost use mathlib.Core.List.{List, _∷_};
 ghost use mathlib.Core.Path.{_≡_};
 ghost use Prim.Native.Nat.{ℕ, _+_, _<_, _≤_};
 ghost use Rattle.token.specs.Told.{origin};
 ghost use Rattle.source.specs.Cursors.{ahead};
 ghost use Rattle.source.specs.Places.{none, breaks, walk};
-ghost use Rattle.source.specs.Utf8.{character, shownLength};
+ghost use Rattle.utf8.specs.Utf8.{character};
 use crate::cursor::Cursor;
 use crate::record::Source;
 use token::Position;
-
-// How many bytes a character has, by its first: one, or as many as that shows leading one bits.
-pub fn character_length(first: u8) -> usize
-    ensures shows { λ r. ⌜ r ≡ shownLength first ⌝ }
-    ensures agrees { λ r. ⌜ ((rest : List ℕ) → 0 < character (first ∷ rest) → r ≡ character (first ∷ rest)) ⌝ }
-{
-    let ones = first.leading_ones() as usize;
-    if ones == 0 { 1 } else { ones }
-}
+use utf8::character_length;
 
 impl<'a> Cursor<'a> {
     // At the beginning of a source's text.
@@ -39,7 +30,8 @@ impl<'a> Cursor<'a> {
     pub fn position(&self) -> Position
         ensures { λ r. ⌜ r ≡ now (self .entry) .position ⌝ }
     {
-        self.position
+        let place = self.position;
+        place
     }
 
     // The bytes of the text that lie ahead.

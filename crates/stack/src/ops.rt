@@ -42,7 +42,11 @@ impl<'t, T: Copy + Drop> Stack<'t, T> {
     pub fn get(&self, i: usize) -> Option<T>
         ensures { λ r. ⌜ r ≡ entryAt (held (now (self .entry))) i ⌝ }
     {
-        if i < self.len() { Some(item(self.slots, i)) } else { None }
+        if i < self.len() {
+            Some(item(self.slots, i))
+        } else {
+            None
+        }
     }
 
     // The newest entry.
@@ -50,7 +54,11 @@ impl<'t, T: Copy + Drop> Stack<'t, T> {
         ensures { λ r. ⌜ r ≡ first (stacked (now (self .entry))) ⌝ }
     {
         let n = self.len();
-        if n > 0 { Some(item(self.slots, n - 1)) } else { None }
+        if n > 0 {
+            Some(item(self.slots, n - 1))
+        } else {
+            None
+        }
     }
 
     // One entry more; false, and nothing changed, where the table is full.

@@ -29,7 +29,7 @@ refusal f = record {
   length = f .length;
   line = f .position .line;
   column = f .position .column;
-  needed = f .needed
+  needed = f .needed;
 }
 
 -- an answer by what its value shows
@@ -50,7 +50,7 @@ refusedOver n l t = refused record {
   length = t .length;
   line = t .position .line;
   column = t .position .column;
-  needed = 0
+  needed = 0;
 }
 
 -- where every text begins

@@ -10,7 +10,7 @@ use Rattle.token.specs.declared.place.Position.{Position}
 use Rattle.source.specs.Cursors.{ahead}
 use Rattle.source.specs.Places.{breaks, walk}
 use Rattle.source.specs.Sources.{textOf}
-use Rattle.source.specs.Utf8.{character, bound}
+use Rattle.utf8.specs.Utf8.{character, bound}
 use Rattle.source.specs.declared.cursor.Cursor.{Cursor}
 use Rattle.source.proofs.Passes.{Stepped, stepped, agreed, some-ahead, none-ahead, still, behind, behind-offset, behind-near}
 use Rattle.source.proofs.cursor.Cursor.advance.Needs as need
@@ -41,10 +41,13 @@ ghost-self c =
     let s = c .args .self .now in
     let w = went s _ _ (c .rest-rest .ensures) (not-empty _ (c .if-is-empty .ensures tt)) (c .character-length-n .ensures .agrees) in
     let o = behind-offset _ _ (s .position) _ (c .beyond-self .ensures) in
-    let n : c .beyond-self .result .offset ≡ s .position .offset + character (c .rest-rest .result .now) = o ∙ ap (λ k. s .position .offset + k) (w .0) in
-    (omega (arith, n, w .1 .room),
-      (ap (bound (textOf (s .source))) n ∙ w .1 .next,
-        (behind-near _ _ (s .position) _ (omega (arith, w .0, w .1 .there)) (c .beyond-self .ensures) (s .near), tt)))
+    let n : c .beyond-self .result .offset ≡ s .position .offset + character (c .rest-rest .result .now) = o ∙ ap (λ k. s .position .offset + k) (w .0) in (
+      omega (arith, n, w .1 .room),
+      (
+        ap (bound (textOf (s .source))) n ∙ w .1 .next,
+        (behind-near _ _ (s .position) _ (omega (arith, w .0, w .1 .there)) (c .beyond-self .ensures) (s .near), tt),
+      ),
+    )
 
 pub returns-then-is-empty : need.returns-then-is-empty
 returns-then-is-empty c =
@@ -58,9 +61,9 @@ returns c =
     let rest = c .rest-rest .result .now in
     let w = went s rest (c .character-length-n .result) (c .rest-rest .ensures) (not-empty _ (c .if-is-empty .ensures tt)) (c .character-length-n .ensures .agrees) in
     let b : c .beyond-self .result ≡ behind (c .character-length-n .result) (breaks rest) (s .position) =
-        c .beyond-self .ensures ∙ ap (λ t. behind (c .character-length-n .result) t (s .position)) (c .breaks-line .ensures) in
+    c .beyond-self .ensures ∙ ap (λ t. behind (c .character-length-n .result) t (s .position)) (c .breaks-line .ensures) in
     record {
       answer = some-ahead (ahead s) (subst (λ l. 0 < length l) (c .rest-rest .ensures) (not-empty _ (c .if-is-empty .ensures tt)));
       moves = moved s rest _ _ (c .rest-rest .ensures) (w .0) (w .1) b;
-      keeps = refl
+      keeps = refl;
     }

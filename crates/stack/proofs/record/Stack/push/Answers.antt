@@ -19,7 +19,7 @@ returns-then-n-self g c =
     record {
       answer = sym f;
       holds = push-more k xs _ (c .args .x) _ (c .len-n .ensures) (c .if-n-self .taken) (c .store .ensures) ∙ sym (cond-true _ _ _ f);
-      rooms = ap length (c .store .ensures) ∙ length-set _ _ _
+      rooms = ap length (c .store .ensures) ∙ length-set _ _ _;
     }
 
 pub returns-else-n-self : need.returns-else-n-self

@@ -10,16 +10,15 @@ use lib.ListN.{length, take, drop}
 use lib.Seq.{take-add}
 use lib.Utf8.{scalars, scalar, encode, encodes}
 use Rattle.std.specs.Options.{isSome}
-use Rattle.std.specs.Reads.{ValidUpTo}
 use Rattle.std.specs.Text.{Utf8, width}
 use Rattle.std.specs.Words.{Boundary}
 use Rattle.std.specs.declared.option.Option.{Option}
 use Rattle.std.specs.declared.option.Option.the-variants.{Some, None}
-use Rattle.std.proofs.shelf.Lists.{append-assoc, append-nil, length-append, length-drop, length-take-le, take-append-drop, drop-at, take-at, take-all}
+use Rattle.std.proofs.shelf.Lists.{append-assoc, append-nil, length-append, length-drop, length-take-le, take-append-drop, drop-at, drop-drop, take-rest}
 use Rattle.std.proofs.shelf.Tests.{and-parts, and-from, cond-true, cond-false, ne-eqb, eq-eqb, eqb-true, eqb-false, leb-true, le-leb, cases-bool, not-true, false≢true}
 use Rattle.std.proofs.shelf.Text.{utf8-append, utf8-take, boundary-from-take, length-encode, width-bounds, utf8-nil}
-use Rattle.source.specs.Utf8.{character, badFrom, firstBad, wellFormed, bound}
-use Rattle.source.proofs.Grammar.{character-begun, character-encode}
+use Rattle.utf8.specs.Utf8.{character, badFrom, firstBad, wellFormed, bound}
+use Rattle.utf8.proofs.Rows.{character-begun, character-encode}
 
 -- what is owed is passed
 owed : (at k : ℕ) (bs : List ℕ) → k ≤ length bs → badFrom at k bs ≡ badFrom (at + k) 0 (drop k bs)
@@ -36,6 +35,24 @@ passed at n (b ∷ bs) e =
     ∙ ap (λ k. badFrom (suc at) (pred k) bs) e
     ∙ owed (suc at) n bs (omega arith)
     ∙ ap (λ k. badFrom k 0 (drop n bs)) (let q : suc at + n ≡ at + suc n = omega arith in q)
+
+-- one turn over the bytes from a place on
+stopped : (at : ℕ) (bs : List ℕ) → 0 < length bs → character bs ≡ 0 → badFrom at 0 bs ≡ Some at
+stopped at [] h e = absurd (omega arith)
+stopped at (b ∷ bs) h e = cond-true (eqb (character (b ∷ bs)) 0) (Some at) _ (eq-eqb _ 0 e)
+
+module _ (bs : List ℕ) (at n : ℕ) (h : at < length bs) (e : n ≡ character (take (length bs - at) (drop at bs))) where
+  here : n ≡ character (drop at bs)
+  here = e ∙ ap character (take-rest bs at)
+
+  pub turn-bad : n ≡ 0 → badFrom at 0 (drop at bs) ≡ Some at
+  turn-bad z = stopped at (drop at bs) (omega (arith, length-drop at bs)) (sym here ∙ z)
+
+  pub turn-good : (n ≡ 0 → ⊥) → badFrom at 0 (drop at bs) ≡ badFrom (at + n) 0 (drop (at + n) bs)
+  turn-good z =
+      let m : character (drop at bs) ≡ suc (pred n) = omega (arith, here) in
+      let k : suc (pred n) ≡ n = omega arith in
+      passed at (pred n) (drop at bs) m ∙ ap (λ i. badFrom (at + i) 0 (drop i (drop at bs))) k ∙ ap (badFrom (at + n) 0) (drop-drop n at bs)
 
 -- the encodings of scalar values are passed
 pub texts-passed : (cs : List ℕ) (at : ℕ) (r : List ℕ) → scalars cs ≡ true → badFrom at 0 (encodes cs ++ r) ≡ badFrom (at + length (encodes cs)) 0 r
@@ -58,29 +75,6 @@ pub text-good : (bs : List ℕ) → Utf8 bs → firstBad bs ≡ None
 text-good bs u =
     ap firstBad (sym (u .1 .1) ∙ sym (append-nil (encodes (u .0)))) ∙ texts-passed (u .0) 0 [] (u .1 .0)
 
--- where text ends and no more follows, the first bad sequence begins
-pub text-bad : (bs : List ℕ) (n : ℕ) → ValidUpTo bs n → firstBad bs ≡ Some n
-text-bad bs n v =
-    let u = v .front in
-    let front : take n bs ≡ encodes (u .0) = sym (u .1 .1) in
-    let len : length (encodes (u .0)) ≡ n = ap length (sym front) ∙ length-take-le n bs (omega (arith, v .short)) in
-    let rest : List ℕ = drop n bs in
-    ap firstBad (sym (take-append-drop n bs) ∙ ap (λ l. l ++ rest) front)
-    ∙ texts-passed (u .0) 0 rest (u .1 .0)
-    ∙ ap (λ k. badFrom k 0 rest) (let e : 0 + length (encodes (u .0)) ≡ n = omega arith in e)
-    ∙ stopped rest refl (omega (arith, length-drop n bs, v .short))
-  where
-    stopped : (r : List ℕ) → r ≡ drop n bs → 0 < length r → badFrom n 0 r ≡ Some n
-    stopped [] e h = absurd (omega arith)
-    stopped (b ∷ r) e h = cond-true (eqb (character (b ∷ r)) 0) (Some n) _ (none (character (b ∷ r)) refl)
-      where
-        none : (k : ℕ) → character (b ∷ r) ≡ k → eqb (character (b ∷ r)) 0 ≡ true
-        none zero q = eq-eqb _ 0 q
-        none (suc k) q =
-            let t : Utf8 (take (suc k) (b ∷ r)) = subst (λ m. Utf8 (take m (b ∷ r))) q (character-begun (b ∷ r) .text (omega arith)) in
-            let more : Utf8 (take (suc k) (drop n bs)) = subst (λ l. Utf8 (take (suc k) l)) e t in
-            absurd (v .longest (n + suc k) (omega arith) (subst Utf8 (sym (take-add n (suc k) bs)) (utf8-append _ _ (v .front) more)))
-
 -- bytes with no bad sequence are text
 good-from : (k at : ℕ) (bs : List ℕ) → length bs ≤ k → badFrom at 0 bs ≡ None → Utf8 bs
 good-from k at [] l h = utf8-nil
@@ -100,9 +94,12 @@ good-none : (o : Option ℕ) → not (isSome o) ≡ true → o ≡ None
 good-none None h = refl
 good-none (Some x) h = absurd (false≢true h)
 
+pub none-bad-text : (bs : List ℕ) → firstBad bs ≡ None → Utf8 bs
+none-bad-text bs h = good-from (length bs) 0 bs (omega arith) h
+
 pub well-formed-text : (bs : List ℕ) → wellFormed bs ≡ true → Utf8 bs
 unfolding wellFormed
-well-formed-text bs h = good-from (length bs) 0 bs (omega arith) (good-none (firstBad bs) h)
+well-formed-text bs h = none-bad-text bs (good-none (firstBad bs) h)
 
 pub text-well-formed : (bs : List ℕ) → Utf8 bs → wellFormed bs ≡ true
 unfolding wellFormed

@@ -21,19 +21,39 @@ inside (low to high) b = leb low b && leb b high
 abbrev pub tail : Range
 tail = 0x80 to 0xBF
 
--- UTF8-1, UTF8-2, UTF8-3 and UTF8-4, row by row
+-- UTF8-1
+abbrev pub utf8-1 : List Range
+utf8-1 = (0x00 to 0x7F) ∷ []
+
+-- UTF8-2
+abbrev pub utf8-2 : List Range
+utf8-2 = (0xC2 to 0xDF) ∷ tail ∷ []
+
+-- UTF8-3, its four rows
+abbrev pub utf8-3a : List Range
+utf8-3a = (0xE0 to 0xE0) ∷ (0xA0 to 0xBF) ∷ tail ∷ []
+
+abbrev pub utf8-3b : List Range
+utf8-3b = (0xE1 to 0xEC) ∷ tail ∷ tail ∷ []
+
+abbrev pub utf8-3c : List Range
+utf8-3c = (0xED to 0xED) ∷ (0x80 to 0x9F) ∷ tail ∷ []
+
+abbrev pub utf8-3d : List Range
+utf8-3d = (0xEE to 0xEF) ∷ tail ∷ tail ∷ []
+
+-- UTF8-4, its three rows
+abbrev pub utf8-4a : List Range
+utf8-4a = (0xF0 to 0xF0) ∷ (0x90 to 0xBF) ∷ tail ∷ tail ∷ []
+
+abbrev pub utf8-4b : List Range
+utf8-4b = (0xF1 to 0xF3) ∷ tail ∷ tail ∷ tail ∷ []
+
+abbrev pub utf8-4c : List Range
+utf8-4c = (0xF4 to 0xF4) ∷ (0x80 to 0x8F) ∷ tail ∷ tail ∷ []
+
 abbrev pub rows : List (List Range)
-rows =
-    ((0x00 to 0x7F) ∷ [])
-    ∷ ((0xC2 to 0xDF) ∷ tail ∷ [])
-    ∷ ((0xE0 to 0xE0) ∷ (0xA0 to 0xBF) ∷ tail ∷ [])
-    ∷ ((0xE1 to 0xEC) ∷ tail ∷ tail ∷ [])
-    ∷ ((0xED to 0xED) ∷ (0x80 to 0x9F) ∷ tail ∷ [])
-    ∷ ((0xEE to 0xEF) ∷ tail ∷ tail ∷ [])
-    ∷ ((0xF0 to 0xF0) ∷ (0x90 to 0xBF) ∷ tail ∷ tail ∷ [])
-    ∷ ((0xF1 to 0xF3) ∷ tail ∷ tail ∷ tail ∷ [])
-    ∷ ((0xF4 to 0xF4) ∷ (0x80 to 0x8F) ∷ tail ∷ tail ∷ [])
-    ∷ []
+rows = utf8-1 ∷ utf8-2 ∷ utf8-3a ∷ utf8-3b ∷ utf8-3c ∷ utf8-3d ∷ utf8-4a ∷ utf8-4b ∷ utf8-4c ∷ []
 
 -- the bytes begin with one of each range, in order
 abbrev pub begins : List Range → List ℕ → Bool

@@ -16,7 +16,7 @@ use Rattle.std.proofs.shelf.Lists.{append-assoc, getD-append-left, length-take-
 use Rattle.std.proofs.shelf.Tests.{and-parts, leb-true, false≢true, cond-false, cond-both, ne-eqb}
 use Rattle.std.proofs.shelf.Text.{length-encode, width-bounds}
 use Rattle.std.proofs.shelf.Ways.{tells}
-use Rattle.source.specs.Utf8.{Range, _to_, inside, tail, rows, begins, among, character, leadingOnes, shownLength}
+use Rattle.utf8.specs.Utf8.{Range, _to_, inside, tail, rows, begins, among, character, leadingOnes, shownLength}
 
 -- the bytes are one of each range, in order
 abbrev Each : List Range → List ℕ → Type 0
@@ -96,16 +96,33 @@ found (r ∷ rs) w bs =
 pub character-begun : (bs : List ℕ) → Begun bs (character bs)
 unfolding character
 character-begun bs = found rows (
-    text-1 0 127 (omega arith),
-    (text-2,
-    (row-3 0xE0 0xE0 0xA0 0xBF (λ x y p q. (omega arith, omega arith, (omega arith, omega arith), omega arith, inl (omega arith))),
-    (row-3 0xE1 0xEC 0x80 0xBF (λ x y p q. (omega arith, omega arith, (omega arith, omega arith), omega arith, inl (omega arith))),
-    (row-3 0xED 0xED 0x80 0x9F (λ x y p q. (omega arith, omega arith, (omega arith, omega arith), omega arith, inl (omega arith))),
-    (row-3 0xEE 0xEF 0x80 0xBF (λ x y p q. (omega arith, omega arith, (omega arith, omega arith), omega arith, inr (omega arith))),
-    (row-4 0xF0 0xF0 0x90 0xBF (λ x y p q. (omega arith, (omega arith, omega arith), omega arith, omega arith)),
-    (row-4 0xF1 0xF3 0x80 0xBF (λ x y p q. (omega arith, (omega arith, omega arith), omega arith, omega arith)),
-    (row-4 0xF4 0xF4 0x80 0x8F (λ x y p q. (omega arith, (omega arith, omega arith), omega arith, omega arith)),
-    tt))))))))) bs
+  text-1 0 127 (omega arith),
+  (
+    text-2,
+    (
+      row-3 0xE0 0xE0 0xA0 0xBF (λ x y p q. (omega arith, omega arith, (omega arith, omega arith), omega arith, inl (omega arith))),
+      (
+        row-3 0xE1 0xEC 0x80 0xBF (λ x y p q. (omega arith, omega arith, (omega arith, omega arith), omega arith, inl (omega arith))),
+        (
+          row-3 0xED 0xED 0x80 0x9F (λ x y p q. (omega arith, omega arith, (omega arith, omega arith), omega arith, inl (omega arith))),
+          (
+            row-3 0xEE 0xEF 0x80 0xBF (λ x y p q. (omega arith, omega arith, (omega arith, omega arith), omega arith, inr (omega arith))),
+            (
+              row-4 0xF0 0xF0 0x90 0xBF (λ x y p q. (omega arith, (omega arith, omega arith), omega arith, omega arith)),
+              (
+                row-4 0xF1 0xF3 0x80 0xBF (λ x y p q. (omega arith, (omega arith, omega arith), omega arith, omega arith)),
+                (
+                  row-4 0xF4 0xF4 0x80 0x8F (λ x y p q. (omega arith, (omega arith, omega arith), omega arith, omega arith)),
+                  tt,
+                ),
+              ),
+            ),
+          ),
+        ),
+      ),
+    ),
+  ),
+) bs
 
 -- and the encoding of a scalar value is a row's
 pub row-of-1 : (x : ℕ) (r : List ℕ) → x < 128 → character (x ∷ r) ≡ 1
@@ -206,7 +223,7 @@ shown-character x r h =
         let n : ℕ = character (x ∷ r) in
         let p = and-parts (scalar c) (scalars cs) s in
         let whole : x ∷ r ≡ encode c ++ (encodes cs ++ drop n (x ∷ r)) =
-            sym (take-append-drop n (x ∷ r)) ∙ ap (λ l. l ++ drop n (x ∷ r)) (sym e) ∙ append-assoc (encode c) (encodes cs) (drop n (x ∷ r)) in
+        sym (take-append-drop n (x ∷ r)) ∙ ap (λ l. l ++ drop n (x ∷ r)) (sym e) ∙ append-assoc (encode c) (encodes cs) (drop n (x ∷ r)) in
         let long : 0 < length (encode c) = omega (arith, length-encode c, width-bounds c .0) in
         let first : x ≡ getD (encode c) 0 0 = ap (λ l. getD l 0 0) whole ∙ getD-append-left (encode c) (encodes cs ++ drop n (x ∷ r)) 0 0 long in
         ap shownLength first ∙ shown-encode c (p .0) ∙ sym (ap character whole ∙ character-encode c (encodes cs ++ drop n (x ∷ r)) (p .0))
