@@ -1,0 +1,3 @@
+pub mod Sane
+pub mod Escapes
+pub mod Moves
