@@ -7,6 +7,7 @@ ghost use lib.ListN.{length};
 ghost use lib.Dec.{eqb};
 ghost use Rattle.std.specs.shelf.Lists.{common as commonOf, leading as leadingOf};
 ghost use Rattle.scan.specs.Classes.{gap, white, inLine};
+ghost use Rattle.scan.specs.Prefix.{begins};
 
 // A class of bytes.
 pub trait ByteClass {
@@ -77,4 +78,11 @@ pub fn common(a: &[u8], b: &[u8]) -> usize
         n += 1;
     }
     n
+}
+
+// Whether bytes begin with others.
+pub fn starts(bytes: &[u8], prefix: &[u8]) -> bool
+    ensures { λ r. ⌜ r ≡ begins (now (prefix .entry)) (now (bytes .entry)) ⌝ }
+{
+    common(bytes, prefix) == prefix.len()
 }

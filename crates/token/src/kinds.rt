@@ -1,5 +1,6 @@
 ghost use mathlib.Core.Path.{_≡_};
 ghost use Rattle.std.specs.Orderings.{Decides};
+ghost use Rattle.token.specs.Strings.{delimiterOf, escapesIn};
 
 // Every kind of token that is handed out.
 #[derive(Clone, Copy)]
@@ -70,6 +71,29 @@ pub enum StringDelimiter {
 pub struct StringKind {
     pub delimiter: StringDelimiter,
     pub indented: bool,
+}
+
+impl StringKind {
+    // What begins and ends a string of this kind.
+    pub fn delimiter(self) -> &'static str
+        ensures { λ r. ⌜ now r ≡ delimiterOf self ⌝ }
+    {
+        match (self.delimiter, self.indented) {
+            (StringDelimiter::Backtick, false) => "`",
+            (StringDelimiter::Backtick, true) => "```",
+            (StringDelimiter::QuoteDouble, false) => "\"",
+            (StringDelimiter::QuoteDouble, true) => "\"\"\"",
+            (StringDelimiter::QuoteSingle, false) => "'",
+            (StringDelimiter::QuoteSingle, true) => "'''",
+        }
+    }
+
+    // Whether a backslash escapes in it.
+    pub fn processes_escape_sequences(self) -> bool
+        ensures { λ r. ⌜ r ≡ escapesIn self ⌝ }
+    {
+        matches!(self.delimiter, StringDelimiter::QuoteDouble)
+    }
 }
 
 // What is open until its closing counterpart comes.

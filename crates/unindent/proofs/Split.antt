@@ -80,7 +80,7 @@ length-within (b ∷ bs) = by (eqb b 10) (length-within bs)
     by true h = omega arith
     by false h = omega arith
 
-length-some : (bs : List ℕ) → 0 < length bs → 0 < lineLength bs
+pub length-some : (bs : List ℕ) → 0 < length bs → 0 < lineLength bs
 length-some [] h = absurd (omega arith)
 length-some (b ∷ bs) h = by (eqb b 10)
   where

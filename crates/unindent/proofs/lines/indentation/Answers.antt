@@ -1,17 +1,9 @@
 use mathlib.Core.Path.{_≡_, sym, ap, _∙_}
-use mathlib.Core.Bool.{false}
-use Prim.Native.Nat.{ℕ, zero, suc, _<_}
-use native.Mathlib.Omega.{arith}
-use lib.Dec.{eqb}
 use lib.ListN.{length, take, drop}
-use Rattle.std.specs.Options.{mapped}
-use Rattle.std.proofs.shelf.Tests.{eqb-true, false≢true}
+use Rattle.std.proofs.shelf.Tests.{eqb-true}
 use Rattle.unindent.proofs.Shared.{share-more, share-end}
+use Rattle.unindent.proofs.Turns.{not-empty}
 use Rattle.unindent.proofs.lines.indentation.Needs as need
-
-not-empty : (n : ℕ) → false ≡ eqb n 0 → 0 < n
-not-empty zero e = absurd (false≢true e)
-not-empty (suc n) e = omega arith
 
 pub loop-rest-again : need.loop-rest-again
 loop-rest-again c =

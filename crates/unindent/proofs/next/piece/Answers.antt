@@ -9,4 +9,4 @@ pub range-from-requires : need.range-from-requires
 range-from-requires c κs = λ _.
     let l = c .args .line .now in
     let e = c .as-bytes .ensures .value in
-    gap-bound l (c .args .n) (subst Utf8 e (c .as-bytes .ensures .utf8)) (room-there (c .args .n) l (c .pre) (c .if-not-blank .ensures tt ∙ ap blank e))
+    gap-bound l (c .args .n) (subst Utf8 e (c .as-bytes .ensures .utf8)) (room-there (c .args .n) l (c .pre .room) (c .if-not-blank .ensures tt ∙ ap blank e))

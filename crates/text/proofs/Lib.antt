@@ -1,0 +1,4 @@
+mod Turns
+mod Written
+mod Seams
+mod Cooks

@@ -1,0 +1,3 @@
+pub mod Quotes
+pub mod Cooked
+pub mod Fedby

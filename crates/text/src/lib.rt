@@ -1,0 +1,5 @@
+// The text that a string literal stands for.
+
+mod cooking;
+mod feeding;
+mod quote;
