@@ -1,4 +1,7 @@
 ghost use mathlib.Core.Path.{_≡_};
+ghost use Prim.Native.Nat.{_≤_};
+ghost use lib.ListN.{length};
+ghost use Rattle.std.specs.Results.{Cases};
 ghost use Rattle.token.specs.Told.{toldBy};
 ghost use Rattle.source.specs.Sources.{textOf, lexemeIn};
 use crate::record::Source;
@@ -10,7 +13,8 @@ use token::Token;
 impl<'a> Source<'a> {
     // The part of the text that a token stands for. Any record will do: one that does not begin and end inside the text, between characters, is refused.
     pub fn lexeme(&self, token: Token) -> Result<&'a str, Fault>
-        ensures { λ r. ⌜ toldBy (λ s. now s) r ≡ lexemeIn (textOf (now (self .entry))) token ⌝ }
+        ensures tells { λ r. ⌜ toldBy (λ s. now s) r ≡ lexemeIn (textOf (now (self .entry))) token ⌝ }
+        ensures small { λ r. ⌜ Cases r (λ s. length (now s) ≤ 65536) (λ _. Unit {0}) ⌝ }
     {
         let text = self.text;
         let start = token.position.offset as usize;

@@ -83,3 +83,8 @@ cooked-fits escapes bs s room e u h =
     let c : close (feed s (decodes bs)) ≡ cookedBy escapes bs = ap (λ t. close (feed t (decodes bs))) e ∙ cooked-feed escapes bs u in
     let p = closed-fits (feed s (decodes bs)) room (ap (λ r. fitting r room) c ∙ h) in
     (p .0, sym (ap fromOk c) ∙ p .1)
+
+-- a length tells its text, and a refusal itself
+pub sized-err : (r : Result (List ℕ) Escape) (x : Escape) → Err x ≡ sized r → r ≡ Err x
+sized-err (Ok bs) x e = absurd (let z : _≡_ {A = ℕ} 0 1 = cc in omega arith)
+sized-err (Err y) x e = let q : y ≡ x = cc in ap Err q

@@ -1,3 +1,4 @@
 pub mod Quotes
 pub mod Cooked
 pub mod Fedby
+pub mod Texts

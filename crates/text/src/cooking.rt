@@ -58,3 +58,20 @@ fn fill_pieces(pieces: Pieces, escapes: bool, out: &mut [u8])
         at += write(&mut machine, piece, &mut out[at..]);
     }
 }
+
+// How many bytes a literal's text has, or why it is refused.
+pub(crate) fn measure(kind: StringKind, inner: &str) -> Result<usize, Escape>
+    requires { ⌜ length (now inner) ≤ 65536 ⌝ }
+    ensures gives { λ r. ⌜ r ≡ sized (cooked kind (now (inner .entry))) ⌝ }
+    ensures small { λ r. ⌜ Cases r (λ n. n ≤ 4 * 65536) (λ _. Unit {0}) ⌝ }
+{
+    measure_pieces(pieces(kind, inner), kind.processes_escape_sequences())
+}
+
+// Writes a literal's text into the start of a buffer.
+pub(crate) fn fill(kind: StringKind, inner: &str, out: &mut [u8])
+    requires { ⌜ fitting (cooked kind (now inner)) (length (now out)) ≡ true ⌝ }
+    ensures { λ _. ⌜ now (out .exit) ≡ onto (fromOk (cooked kind (now (inner .entry)))) (now (out .entry)) ⌝ }
+{
+    fill_pieces(pieces(kind, inner), kind.processes_escape_sequences(), out);
+}

@@ -1,5 +1,8 @@
 // The text that a string literal stands for.
 
+mod call;
 mod cooking;
 mod feeding;
 mod quote;
+
+pub use call::text;

@@ -1,5 +1,6 @@
 ghost use mathlib.Core.Path.{_≡_};
 ghost use Rattle.std.specs.Orderings.{Decides};
+ghost use Rattle.token.specs.Ordinals.{ordinal as ordinalOf, sameKind};
 ghost use Rattle.token.specs.Strings.{delimiterOf, escapesIn};
 
 // Every kind of token that is handed out.
@@ -48,11 +49,21 @@ pub enum TokenKind {
     Whitespace,
 }
 
+impl TokenKind {
+    // The place of a kind in the list.
+    fn ordinal(self) -> u8
+        ensures is { λ r. ⌜ r ≡ ordinalOf self ⌝ }
+        ensures alone { λ r. ⌜ ((other : TokenKind) → ordinalOf other ≡ r → other ≡ self) ⌝ }
+    {
+        self as u8
+    }
+}
+
 pub impl PartialEq<TokenKind> for TokenKind as TokenKindPartialEq {
-    ghost equals = { λ x y r. Decides r (x ≡ y) };
+    ghost equals = { λ x y r. (r ≡ sameKind x y) × Decides r (x ≡ y) };
 
     fn eq(&self, other: &TokenKind) -> bool {
-        *self as u8 == *other as u8
+        self.ordinal() == other.ordinal()
     }
 }
 
