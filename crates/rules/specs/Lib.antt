@@ -1,0 +1,4 @@
+pub mod Scans
+pub mod Strings
+pub mod Table
+pub mod Lines
