@@ -154,10 +154,14 @@ abbrev pub stray : List ℕ → Found
 stray [] = Fails layout.EscapeEndOfFile 0 1
 stray (c ∷ s) = Fails layout.InvalidEscapeSequence 0 1
 
+-- a folded line end, of n bytes with its backslash, and the blanks behind it
+abbrev pub folded : ℕ → List ℕ → Found
+folded n s = Lexed kind.Whitespace (n + leading gap (drop n s))
+
 abbrev pub escape : List ℕ → Found
 escape s =
-    cond (begins (92 ∷ 10 ∷ []) s) (Lexed kind.Whitespace (2 + leading gap (drop 2 s)))
-    (cond (begins (92 ∷ 13 ∷ 10 ∷ []) s) (Lexed kind.Whitespace (3 + leading gap (drop 3 s)))
+    cond (begins (92 ∷ 10 ∷ []) s) (folded 2 s)
+    (cond (begins (92 ∷ 13 ∷ 10 ∷ []) s) (folded 3 s)
     (cond (begins (92 ∷ 13 ∷ []) s) (Fails layout.UnpairedCarriageReturn 0 2)
     (stray (drop 1 s))))
 
