@@ -1,7 +1,7 @@
 -- The start of a line, the body of a recipe, and which rule comes when.
 use mathlib.Core.Bool.{Bool, true, false, cond, not, _&&_, _||_}
-use mathlib.Core.List.{List, [], _∷_, map, reverse}
-use Prim.Native.Nat.{ℕ, zero, suc}
+use mathlib.Core.List.{List, [], _∷_}
+use Prim.Native.Nat.{ℕ}
 use lib.Dec.{eqb}
 use lib.ListN.{drop, length, take}
 use Rattle.std.specs.Options.{isSome}
@@ -11,7 +11,6 @@ use Rattle.std.specs.shelf.Lists.{leading}
 use Rattle.scan.specs.Classes.{gap, white}
 use Rattle.scan.specs.Prefix.{begins}
 use Rattle.token.specs.declared.kinds.TokenKind.the-variants as kind
-use Rattle.token.specs.declared.place.Span.{Span}
 use Rattle.rules.specs.declared.found.Around.{Around}
 use Rattle.rules.specs.declared.found.Found.{Found}
 use Rattle.rules.specs.declared.found.Found.the-variants.{Lexed, Fails, Unclosed}
@@ -21,13 +20,7 @@ use Rattle.rules.specs.declared.parts.Start.the-variants.{Still, Aligned, Outw
 use Rattle.rules.specs.Scans.{closing, crlf, empty, lf, lineOver, opening, overText, scan}
 use Rattle.rules.specs.Table.{general, nested}
 
--- the texts of the open Indents, innermost first: parts of the text, of spans that are kept oldest first
-abbrev pub part : List ℕ → Span → List ℕ
-part text l = take (l .length) (drop (l .offset) text)
-
-abbrev pub texts : List ℕ → List Span → List (List ℕ)
-texts text spans = map (part text) (reverse spans)
-
+-- the texts of the open Indents stand innermost first
 abbrev pub indented : List (List ℕ) → Bool
 indented [] = false
 indented (l ∷ ls) = true

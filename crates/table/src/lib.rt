@@ -17,3 +17,4 @@ pub use walk::OverString;
 pub use walk::OverText;
 pub use walk::StringSteps;
 pub use walk::TextSteps;
+pub use walk::at_line_end;

@@ -13,7 +13,7 @@ use token::StringKind;
 use utf8::character_length;
 
 // Whether a line end comes first.
-pub(crate) fn at_line_end(ahead: &[u8]) -> bool
+pub fn at_line_end(ahead: &[u8]) -> bool
     ensures { λ r. ⌜ r ≡ lineEnd (now (ahead .entry)) ⌝ }
 {
     starts(ahead, b"\n") || starts(ahead, b"\r\n")

@@ -1,0 +1,7 @@
+// The start of a line, the body of a recipe, and which rule comes when.
+
+mod levels;
+mod reads;
+mod starts;
+
+pub use levels::Levels;
