@@ -1,0 +1,5 @@
+pub mod Effects
+pub mod States
+pub mod Answers
+pub mod Runs
+pub mod Examples
