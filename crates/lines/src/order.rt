@@ -2,6 +2,7 @@ ghost use mathlib.Core.Bool.{false};
 ghost use mathlib.Core.Path.{_≡_};
 ghost use Prim.Native.Nat.{_≤_};
 ghost use lib.ListN.{length};
+ghost use Rattle.rules.specs.Laws.{Sound};
 ghost use Rattle.rules.specs.Lines.{body as bodyOf, finish as finishOf, onward as onwardOf, orElse, rule as ruleOf, space as spaceOf, stop as stopOf, told as toldOf};
 ghost use Rattle.lines.specs.Levels.{textsOf};
 use crate::levels::Levels;
@@ -93,7 +94,7 @@ fn onward(around: Around, levels: Levels, ahead: &[u8]) -> Found
 }
 
 // What is found: at column 0 the start of a line is tried first.
-pub fn rule(fresh: bool, around: Around, levels: Levels, ahead: &[u8]) -> Found
+fn tried(fresh: bool, around: Around, levels: Levels, ahead: &[u8]) -> Found
     ensures { λ r. ⌜ r ≡ ruleOf fresh around (textsOf (levels .entry)) (now (ahead .entry)) ⌝ }
 {
     if fresh {
@@ -102,4 +103,12 @@ pub fn rule(fresh: bool, around: Around, levels: Levels, ahead: &[u8]) -> Found
         }
     }
     onward(around, levels, ahead)
+}
+
+// What the rules find, which keeps their law.
+pub fn rule(fresh: bool, around: Around, levels: Levels, ahead: &[u8]) -> Found
+    ensures is { λ r. ⌜ r ≡ ruleOf fresh around (textsOf (levels .entry)) (now (ahead .entry)) ⌝ }
+    ensures sound { λ r. ⌜ Sound fresh around (textsOf (levels .entry)) (now (ahead .entry)) r ⌝ }
+{
+    tried(fresh, around, levels, ahead)
 }
