@@ -80,7 +80,7 @@ fn indentation(body: bool, levels: Levels, n: usize, run: &[u8]) -> Start
 }
 
 // Which rule holds where a line starts.
-fn start(around: Around, levels: Levels, ahead: &[u8]) -> Start
+pub(crate) fn start(around: Around, levels: Levels, ahead: &[u8]) -> Start
     ensures { λ r. ⌜ r ≡ startAt around (textsOf (levels .entry)) (now (ahead .entry)) ⌝ }
 {
     let n = leading::<Gap>(ahead);

@@ -13,12 +13,12 @@ use Rattle.rules.specs.Picks.{admits}
 use Rattle.rules.specs.Table.{Row, _picks_, firstOf, letter, lookup, mark, pick, table}
 use Rattle.rules.proofs.Cases.{by}
 
-Held : (Rule → Type 0) → ℕ → List Row → Type 0
+unfoldable pub Held : (Rule → Type 0) → ℕ → List Row → Type 0
 Held P c [] = Prim.Unit
 Held P c ((d picks r) ∷ rows) = (eqb c d ≡ true → P r) × Held P c rows
 
 -- a fact of every row that can be picked is a fact of the rule picked
-looked-up : (P : Rule → Type 0) (c : ℕ) (rows : List Row) → Held P c rows → P (cond (letter c) rule.Name rule.Unknown) → P (lookup rows c)
+pub looked-up : (P : Rule → Type 0) (c : ℕ) (rows : List Row) → Held P c rows → P (cond (letter c) rule.Name rule.Unknown) → P (lookup rows c)
 unfolding Held
 looked-up P c [] h other = other
 looked-up P c ((d picks r) ∷ rows) h other = by P (eqb c d) (h .0) (λ _. looked-up P c rows (h .1) other)

@@ -39,6 +39,12 @@ leads k n s = cond (begins (delimiterOf k) s) (Closes (n + length (delimiterOf k
 abbrev pub reach : StringKind → (format : Bool) → List ℕ → Reach
 reach k format s = leads k (scan (overString k format) 0 false s) (drop (scan (overString k format) 0 false s) s)
 
+-- the bytes of the inside and of what ends it
+abbrev pub reaches : Reach → ℕ
+reaches (Closes n) = n
+reaches (Pauses n) = n
+reaches Ends = 0
+
 -- a string token by its quotes
 abbrev pub stringToken : StringDelimiter → TokenKind
 stringToken quote.Backtick = kind.Backtick

@@ -48,3 +48,27 @@ pub enum Rule {
     Name,
     Unknown,
 }
+
+// What a token changes beside the place, but for Indents and what belongs to them.
+#[derive(Clone, Copy)]
+pub enum Change {
+    Nothing,
+    Marks,
+    Unmarks,
+    SeesColon,
+    Names,
+    Opens(Delimiter),
+    Closes(Delimiter),
+    BeginsFormat,
+    EndsFormat,
+}
+
+// What a token does once it is handed out.
+#[derive(Clone, Copy)]
+pub enum Effect {
+    Indents,
+    Dedents,
+    Texts,
+    Ends,
+    Other(Change),
+}
