@@ -26,12 +26,12 @@ use Rattle.rules.specs.declared.found.Found.{Found}
 use Rattle.rules.specs.declared.found.Found.the-variants.{Lexed, Fails, Unclosed}
 use Rattle.rules.specs.declared.found.Layout.{Layout}
 use Rattle.rules.specs.declared.found.Layout.the-variants as layout
-use Rattle.lexer.specs.Effects.{effect}
 use Rattle.lexer.specs.States.{Inner, Standing, State, ahead, found}
-use Rattle.lexer.specs.declared.effect.Change.{Change}
-use Rattle.lexer.specs.declared.effect.Change.the-variants.{Nothing, Marks, Unmarks, BeginsFormat, Closes, SeesColon, Names, Opens}
-use Rattle.lexer.specs.declared.effect.Effect.{Effect}
-use Rattle.lexer.specs.declared.effect.Effect.the-variants.{Indents, Dedents, Texts, Ends, Other}
+use Rattle.rules.specs.Effects.{effectOf}
+use Rattle.rules.specs.declared.parts.Change.{Change}
+use Rattle.rules.specs.declared.parts.Change.the-variants.{Nothing, Marks, Unmarks, SeesColon, Names, Opens, Closes, BeginsFormat, EndsFormat}
+use Rattle.rules.specs.declared.parts.Effect.{Effect}
+use Rattle.rules.specs.declared.parts.Effect.the-variants.{Indents, Dedents, Texts, Ends, Other}
 
 -- the causes of the layout
 abbrev pub causeOf : Layout → Cause
@@ -70,11 +70,12 @@ abbrev pub fullBy : State → Change → Option Cause
 fullBy σ Nothing = None
 fullBy σ Marks = None
 fullBy σ Unmarks = None
-fullBy σ BeginsFormat = full (σ .standing .inner .openers) (σ .rooms .openers) cause.OpenersFull
-fullBy σ Closes = None
 fullBy σ SeesColon = None
 fullBy σ Names = None
 fullBy σ (Opens d) = full (σ .standing .inner .openers) (σ .rooms .openers) cause.OpenersFull
+fullBy σ (Closes d) = None
+fullBy σ BeginsFormat = full (σ .standing .inner .openers) (σ .rooms .openers) cause.OpenersFull
+fullBy σ EndsFormat = None
 
 -- the table that a token needs and that is full
 abbrev pub lacks : State → Effect → Option Cause
@@ -90,7 +91,7 @@ roomed t (Some c) = Err (faultAt c (t .position) (t .length))
 
 -- room is looked at last
 abbrev pub stored : State → Result Token Fault → Result (Option Token) Fault
-stored σ (Ok t) = roomed t (lacks σ (effect (t .kind)))
+stored σ (Ok t) = roomed t (lacks σ (effectOf (t .kind)))
 stored σ (Err f) = Err f
 
 -- the next token, the fault, or nothing after Eof
@@ -110,11 +111,12 @@ abbrev pub changed : Change → Token → List ℕ → Inner → Inner
 changed Nothing t s i = record { openers = i .openers; mark = i .mark; colon = i .colon; formats = false }
 changed Marks t s i = record { openers = i .openers; mark = Some t; colon = i .colon; formats = false }
 changed Unmarks t s i = record { openers = i .openers; mark = None; colon = i .colon; formats = false }
-changed BeginsFormat t s i = record { openers = FormatString (quoteOf s) ∷ i .openers; mark = i .mark; colon = i .colon; formats = false }
-changed Closes t s i = record { openers = behind (i .openers); mark = i .mark; colon = i .colon; formats = false }
 changed SeesColon t s i = record { openers = i .openers; mark = i .mark; colon = true; formats = false }
 changed Names t s i = record { openers = i .openers; mark = i .mark; colon = i .colon; formats = same (take (t .length) s) (102 ∷ []) }
 changed (Opens d) t s i = record { openers = d ∷ i .openers; mark = i .mark; colon = i .colon; formats = false }
+changed (Closes d) t s i = record { openers = behind (i .openers); mark = i .mark; colon = i .colon; formats = false }
+changed BeginsFormat t s i = record { openers = FormatString (quoteOf s) ∷ i .openers; mark = i .mark; colon = i .colon; formats = false }
+changed EndsFormat t s i = record { openers = behind (i .openers); mark = i .mark; colon = i .colon; formats = false }
 
 -- what a token leaves
 abbrev pub stood : Effect → Token → List ℕ → Standing → Standing
@@ -140,5 +142,5 @@ after σ t = record {
   text = σ .text;
   rooms = σ .rooms;
   place = walk (t .length) (ahead σ) (σ .place);
-  standing = stood (effect (t .kind)) t (ahead σ) (σ .standing)
+  standing = stood (effectOf (t .kind)) t (ahead σ) (σ .standing)
 }

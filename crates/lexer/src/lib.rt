@@ -1,10 +1,5 @@
-// A session over a text: what each token changes once it is handed out.
+// A session over a text: what it answers, and how each token leaves it.
 
-mod effect;
-mod effects;
 mod examples;
 
-pub use effect::Change;
-pub use effect::Effect;
-pub use effects::effect_of;
 pub use examples::lexing_examples_hold;
