@@ -26,6 +26,7 @@ use Rattle.rules.specs.declared.found.Found.{Found}
 use Rattle.rules.specs.declared.found.Found.the-variants.{Lexed, Fails, Unclosed}
 use Rattle.rules.specs.declared.found.Layout.{Layout}
 use Rattle.rules.specs.declared.found.Layout.the-variants as layout
+use Rattle.lexer.specs.declared.seen.Seen.{Seen}
 use Rattle.lexer.specs.States.{Inner, Standing, State, ahead, found}
 use Rattle.rules.specs.Effects.{effectOf}
 use Rattle.rules.specs.declared.parts.Change.{Change}
@@ -106,20 +107,24 @@ behind (x ∷ xs) = xs
 abbrev pub quoteOf : List ℕ → StringKind
 quoteOf s = cond (begins (34 ∷ []) s) (kindOf QuoteDouble s) (kindOf QuoteSingle s)
 
--- what a small change leaves; s is what lies ahead before the token
-abbrev pub changed : Change → Token → List ℕ → Inner → Inner
+-- what is seen of a token, from what lies ahead before it
+abbrev pub seen : Token → List ℕ → Seen
+seen t s = record { quote = quoteOf s; f = same (take (t .length) s) (102 ∷ []) }
+
+-- what a small change leaves
+abbrev pub changed : Change → Token → Seen → Inner → Inner
 changed Nothing t s i = record { openers = i .openers; mark = i .mark; colon = i .colon; formats = false }
 changed Marks t s i = record { openers = i .openers; mark = Some t; colon = i .colon; formats = false }
 changed Unmarks t s i = record { openers = i .openers; mark = None; colon = i .colon; formats = false }
 changed SeesColon t s i = record { openers = i .openers; mark = i .mark; colon = true; formats = false }
-changed Names t s i = record { openers = i .openers; mark = i .mark; colon = i .colon; formats = same (take (t .length) s) (102 ∷ []) }
+changed Names t s i = record { openers = i .openers; mark = i .mark; colon = i .colon; formats = s .f }
 changed (Opens d) t s i = record { openers = d ∷ i .openers; mark = i .mark; colon = i .colon; formats = false }
 changed (Closes d) t s i = record { openers = behind (i .openers); mark = i .mark; colon = i .colon; formats = false }
-changed BeginsFormat t s i = record { openers = FormatString (quoteOf s) ∷ i .openers; mark = i .mark; colon = i .colon; formats = false }
+changed BeginsFormat t s i = record { openers = FormatString (s .quote) ∷ i .openers; mark = i .mark; colon = i .colon; formats = false }
 changed EndsFormat t s i = record { openers = behind (i .openers); mark = i .mark; colon = i .colon; formats = false }
 
 -- what a token leaves
-abbrev pub stood : Effect → Token → List ℕ → Standing → Standing
+abbrev pub stood : Effect → Token → Seen → Standing → Standing
 stood Indents t s w = record {
   levels = record { offset = t .position .offset; length = t .length } ∷ w .levels;
   body = w .inner .colon;
@@ -142,5 +147,5 @@ after σ t = record {
   text = σ .text;
   rooms = σ .rooms;
   place = walk (t .length) (ahead σ) (σ .place);
-  standing = stood (effectOf (t .kind)) t (ahead σ) (σ .standing)
+  standing = stood (effectOf (t .kind)) t (seen t (ahead σ)) (σ .standing)
 }

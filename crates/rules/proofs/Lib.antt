@@ -4,3 +4,5 @@ pub mod Passes
 pub mod Fitting
 pub mod Starting
 pub mod Ruled
+pub mod Edges
+pub mod Whole

@@ -26,6 +26,14 @@ impl<'a> Cursor<'a> {
         }
     }
 
+    // The source whose text it is in.
+    pub fn source(&self) -> Source<'a>
+        ensures { λ r. ⌜ r ≡ now (self .entry) .source ⌝ }
+    {
+        let of = self.source;
+        of
+    }
+
     // The place.
     pub fn position(&self) -> Position
         ensures { λ r. ⌜ r ≡ now (self .entry) .position ⌝ }

@@ -2,6 +2,7 @@ ghost use mathlib.Core.Path.{_≡_};
 ghost use mathlib.Core.Bool.{cond};
 ghost use mathlib.Core.List.{[], _∷_};
 ghost use Prim.Native.Nat.{_<_, _≤_};
+ghost use lib.Dec.{leb};
 ghost use lib.ListN.{length, getD, set as put-at, take};
 ghost use Rattle.stack.specs.Held.{held, stacked, room as roomOf, fits, first, behind, at as entryAt};
 use crate::record::Stack;
@@ -74,6 +75,13 @@ impl<'t, T: Copy + Drop> Stack<'t, T> {
         } else {
             None
         }
+    }
+
+    // Whether no entry more fits.
+    pub fn is_full(&self) -> bool
+        ensures { λ r. ⌜ r ≡ leb (roomOf (now (self .entry))) (length (stacked (now (self .entry)))) ⌝ }
+    {
+        self.slots.len() <= self.len()
     }
 
     // One entry more; false, and nothing changed, where the table is full.

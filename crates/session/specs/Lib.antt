@@ -1,0 +1,4 @@
+pub mod Sessions
+pub mod Sized
+pub mod Able
+mod Calls
