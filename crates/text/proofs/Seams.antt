@@ -49,7 +49,7 @@ delimited k = by (k .indented) refl
         record {
           some = omega (arith, ap length d);
           first = subst (λ l. getD l 0 0 < 128) (sym d) low;
-          last = subst (λ l. getD l (length l - 1) 0 < 128) (sym d) low
+          last = subst (λ l. getD l (length l - 1) 0 < 128) (sym d) low;
         }
     by false e =
         let d : delimiterOf k ≡ q ∷ [] = ap (λ t. cond t (q ∷ q ∷ q ∷ []) (q ∷ [])) e in
@@ -57,7 +57,7 @@ delimited k = by (k .indented) refl
         record {
           some = omega (arith, ap length d);
           first = subst (λ l. getD l 0 0 < 128) (sym d) low;
-          last = subst (λ l. getD l (length l - 1) 0 < 128) (sym d) low
+          last = subst (λ l. getD l (length l - 1) 0 < 128) (sym d) low;
         }
 
 module _ (k : StringKind) (bs : List ℕ) (u : Utf8 bs) (o : begins (delimiterOf k) bs ≡ true) (c : closedBy (delimiterOf k) bs ≡ true) where
@@ -82,7 +82,7 @@ module _ (k : StringKind) (bs : List ℕ) (u : Utf8 bs) (o : begins (delimiterOf
       let d = delimited k in
       let z : length bs - n + 0 ≡ length bs - n = omega arith in
       let e : getD bs (length bs - n) 0 ≡ getD (delimiterOf k) 0 0 =
-          sym (ap (λ i. getD bs i 0) z) ∙ sym (getD-drop (length bs - n) bs 0 0) ∙ begins-at (delimiterOf k) (drop (length bs - n) bs) 0 (parts .1) (d .some) in
+      sym (ap (λ i. getD bs i 0) z) ∙ sym (getD-drop (length bs - n) bs 0 0) ∙ begins-at (delimiterOf k) (drop (length bs - n) bs) 0 (parts .1) (d .some) in
       boundary-before-ascii bs (length bs - n) (omega (arith, twice, d .some)) (subst (λ b. b < 128) (sym e) (d .first))
 
 -- what a literal is, by its quotes

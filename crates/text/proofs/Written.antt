@@ -88,7 +88,7 @@ module _ {at : ℕ} {s : State} {out start : List ℕ} {whole : Result Fed Escap
       room f (Ok g) e =
           let h = fits-bytes whole (length out) (so .enough) in
           let n : length (bytesOf whole) ≡ length (take at out) + (length (f .bytes) + length (g .bytes)) =
-              ap (λ w. length (bytesOf w)) (sym e) ∙ length-append (take at out) (f .bytes ++ g .bytes) ∙ ap (λ k. length (take at out) + k) (length-append (f .bytes) (g .bytes)) in
+          ap (λ w. length (bytesOf w)) (sym e) ∙ length-append (take at out) (f .bytes ++ g .bytes) ∙ ap (λ k. length (take at out) + k) (length-append (f .bytes) (g .bytes)) in
           le-leb (length (f .bytes)) (length out - at) (omega (arith, h, n, front-length, so .within))
       room f (Err x) e = absurd (false≢true (ap (λ w. fits w (length out)) e ∙ so .enough))
 
@@ -108,7 +108,7 @@ module _ {at : ℕ} {s : State} {out start : List ℕ} {whole : Result Fed Escap
     within = omega (arith, same, piece-room);
     front = ap (λ l. before l (feed t ys)) taken ∙ (ap (λ u. before (take at out ++ bs) (feed u ys)) m ∙ joined (feed s xs) split piece-fits);
     back = dropped;
-    enough = subst (λ k. fits whole k ≡ true) (sym same) (so .enough)
+    enough = subst (λ k. fits whole k ≡ true) (sym same) (so .enough);
   }
     where
       bs : List ℕ

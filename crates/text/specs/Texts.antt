@@ -55,7 +55,7 @@ tooShort t n = refused record {
   length = t .length;
   line = t .position .line;
   column = t .position .column;
-  needed = n
+  needed = n;
 }
 
 -- what is answered where the bytes are to fill a buffer of so much room

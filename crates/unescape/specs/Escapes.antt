@@ -35,14 +35,14 @@ digitValue c = cond (leb c 57) (c - 48) (cond (leb c 70) (c - 55) (c - 87))
 -- behind a backslash
 abbrev pub escaped : ℕ → Result Move Escape
 escaped c =
-    cond (eqb c 110) (gives 10)                       -- n
-    (cond (eqb c 114) (gives 13)                      -- r
-    (cond (eqb c 116) (gives 9)                       -- t
-    (cond (eqb c 92) (gives 92)                       -- backslash
-    (cond (eqb c 34) (gives 34)                       -- double quote
-    (cond (eqb c 10) (goes Initial)                   -- line feed
-    (cond (eqb c 13) (goes BackslashCarriageReturn)   -- carriage return
-    (cond (eqb c 117) (goes Unicode)                  -- u
+    cond (eqb c 110) (gives 10)  -- n
+    (cond (eqb c 114) (gives 13)  -- r
+    (cond (eqb c 116) (gives 9)  -- t
+    (cond (eqb c 92) (gives 92)  -- backslash
+    (cond (eqb c 34) (gives 34)  -- double quote
+    (cond (eqb c 10) (goes Initial)  -- line feed
+    (cond (eqb c 13) (goes BackslashCarriageReturn)  -- carriage return
+    (cond (eqb c 117) (goes Unicode)  -- u
     (Err InvalidEscapeSequence))))))))
 
 -- at the closing brace

@@ -41,7 +41,10 @@ impl Unescape {
             (State::Backslash, _) => Err(Escape::InvalidEscapeSequence),
             (State::BackslashCarriageReturn, '\n') => self.go(State::Initial),
             (State::BackslashCarriageReturn, _) => Err(Escape::InvalidEscapeSequence),
-            (State::Unicode, '{') => self.go(State::UnicodeValue { value: 0, digits: 0 }),
+            (State::Unicode, '{') => self.go(State::UnicodeValue {
+                value: 0,
+                digits: 0,
+            }),
             (State::Unicode, _) => Err(Escape::UnicodeEscapeDelimiter),
             (State::UnicodeValue { value, digits }, '}') => self.close(value, digits),
             (State::UnicodeValue { value, digits }, c) => self.widen(value, digits, c),
@@ -106,7 +109,9 @@ impl Unescape {
         match self.state {
             State::Raw | State::Initial => Ok(()),
             State::BackslashCarriageReturn => Err(Escape::InvalidEscapeSequence),
-            State::Backslash | State::Unicode | State::UnicodeValue { .. } => Err(Escape::UnicodeEscapeUnterminated),
+            State::Backslash | State::Unicode | State::UnicodeValue { .. } => Err(
+                Escape::UnicodeEscapeUnterminated,
+            ),
         }
     }
 }

@@ -6,12 +6,12 @@ ghost use Rattle.std.specs.shelf.Lists.{leading as leadingOf};
 ghost use Rattle.scan.specs.Classes.{gap};
 ghost use Rattle.unindent.specs.Lines.{blank as isBlank, indent as indentOf, endsCrlf, meet as meetOf, shares, indentation as indentationOf, lines as linesOf, orNone};
 ghost use Rattle.unindent.specs.Cuts.{lineLength};
-use scan::GapClass;
-use scan::InLineClass;
-use scan::WhiteClass;
 use scan::Gap;
+use scan::GapClass;
 use scan::InLine;
+use scan::InLineClass;
 use scan::White;
+use scan::WhiteClass;
 use scan::common;
 use scan::leading;
 

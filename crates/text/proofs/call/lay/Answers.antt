@@ -21,7 +21,7 @@ returns-in-Err c =
     let e = sized-err (cooked (c .args .kind) (c .args .inner .now)) (c .in-Err .escape) (c .in-Err .ensures tt .gives) in
     record {
       gives =
-        ap (λ f. refused (refusal f)) (c .refused .ensures) ∙ ap refused (same-number t _ _ (c .cause .ensures))
-        ∙ sym (ap (λ r. textAnswer t (length (c .args .buffer .now)) (onCooked t r)) e);
-      fills = sym (ap (λ r. textBuffer (onCooked t r) (c .args .buffer .now)) e)
+          ap (λ f. refused (refusal f)) (c .refused .ensures) ∙ ap refused (same-number t _ _ (c .cause .ensures))
+          ∙ sym (ap (λ r. textAnswer t (length (c .args .buffer .now)) (onCooked t r)) e);
+      fills = sym (ap (λ r. textBuffer (onCooked t r) (c .args .buffer .now)) e);
     }

@@ -30,7 +30,7 @@ loop-piece-again c = (
   omega (arith, c .in-Continue-size .ensures tt .small, c .loop-piece .inv .0, c .in-Some .ensures tt .near),
   omega (arith, c .loop-piece .inv .1, c .in-Some .ensures tt .shorter),
   piece-on (c .loop-piece .machine .state) _ _ _ (c .in-Some .ensures tt .gives) (c .in-Some .ensures tt .utf8) _ (c .loop-piece .size) _ (c .in-Continue-size .ensures tt .gives)
-  ∙ c .loop-piece .inv .2
+      ∙ c .loop-piece .inv .2,
 )
 
 pub returns-in-Break-end : need.returns-in-Break-end

@@ -19,7 +19,7 @@ returns-in-None c =
     record {
       is = sym (ap length b);
       moves = one-state (c .args .machine .now .state) _ (c .args .c) (c .step .ensures .moves);
-      writes = sym (ap (λ bs. onto bs (c .args .out .now)) b)
+      writes = sym (ap (λ bs. onto bs (c .args .out .now)) b);
     }
 
 pub returns-in-Some : need.returns-in-Some
@@ -28,7 +28,7 @@ returns-in-Some c =
     record {
       is = c .put .ensures .is ∙ sym (ap length b ∙ length-encode (c .in-Some .d));
       moves = one-state (c .args .machine .now .state) _ (c .args .c) (c .step .ensures .moves);
-      writes = c .put .ensures .writes ∙ sym (ap (λ bs. onto bs (c .args .out .now)) b)
+      writes = c .put .ensures .writes ∙ sym (ap (λ bs. onto bs (c .args .out .now)) b);
     }
 
 pub returns-in-Err : need.returns-in-Err
@@ -37,5 +37,5 @@ returns-in-Err c =
     record {
       is = sym (ap length b);
       moves = one-state (c .args .machine .now .state) _ (c .args .c) (c .step .ensures .moves);
-      writes = sym (ap (λ bs. onto bs (c .args .out .now)) b)
+      writes = sym (ap (λ bs. onto bs (c .args .out .now)) b);
     }

@@ -34,10 +34,13 @@ add-at c =
 pub loop-c-again : need.loop-c-again
 loop-c-again c =
     let e = c .in-Some .ensures tt .steps .0 in
-    let so = ahead (c .in-Some .c) _ _ (c .loop-c .inv .2) e (c .loop-c .inv .3) in
-    (tt, tt, utf8-past-char _ _ _ (c .loop-c .inv .2) e,
+    let so = ahead (c .in-Some .c) _ _ (c .loop-c .inv .2) e (c .loop-c .inv .3) in (
+      tt,
+      tt,
+      utf8-past-char _ _ _ (c .loop-c .inv .2) e,
       sofar-on (c .in-Some .c ∷ []) _ so _ _ _ (c .place-at .ensures .is) (c .place-at .ensures .moves)
-      (part-back (c .loop-c .at) (c .loop-c .out) _ _ (piece-part (c .in-Some .c ∷ []) _ so) (c .place-at .ensures .writes)))
+          (part-back (c .loop-c .at) (c .loop-c .out) _ _ (piece-part (c .in-Some .c ∷ []) _ so) (c .place-at .ensures .writes)),
+    )
 
 -- nothing is left
 done : {at : ℕ} {s : State} {out start : List ℕ} {whole : Result Fed Escape} (rest : List ℕ) → length rest ≡ 0 → Sofar at s (decodes rest) out start whole → Sofar at s [] out start whole

@@ -25,5 +25,5 @@ range-requires c κs =
     record {
       forward = omega (arith, e, f, twice k bs u (c .pre .opened) (c .pre .closed));
       start-boundary = λ _. subst (Boundary bs) (sym e) (start-seam k bs u (c .pre .opened) (c .pre .closed));
-      end-boundary = subst (Boundary bs) (sym f) (end-seam k bs u (c .pre .opened) (c .pre .closed))
+      end-boundary = subst (Boundary bs) (sym f) (end-seam k bs u (c .pre .opened) (c .pre .closed));
     }

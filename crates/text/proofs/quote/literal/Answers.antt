@@ -16,9 +16,9 @@ returns-then-closes c =
     let k = c .in-Some .kind in
     record {
       is =
-        quoted bs k (c .in-Some .ensures tt ∙ ap (firstOf quotes) (c .as-bytes .ensures .value)) (c .if-closes .ensures tt ∙ ap (closedBy (delimiterOf k)) (c .as-bytes-in-Some .ensures .value))
-        ∙ ap (λ l. Some (k, l)) (sym (c .inner .ensures));
-      short = subst (λ l. length l ≤ length bs) (sym (c .inner .ensures)) (stripped-short (length (delimiterOf k)) bs)
+          quoted bs k (c .in-Some .ensures tt ∙ ap (firstOf quotes) (c .as-bytes .ensures .value)) (c .if-closes .ensures tt ∙ ap (closedBy (delimiterOf k)) (c .as-bytes-in-Some .ensures .value))
+          ∙ ap (λ l. Some (k, l)) (sym (c .inner .ensures));
+      short = subst (λ l. length l ≤ length bs) (sym (c .inner .ensures)) (stripped-short (length (delimiterOf k)) bs);
     }
 
 pub returns-else-closes : need.returns-else-closes
@@ -26,5 +26,5 @@ returns-else-closes c =
     let k = c .in-Some .kind in
     record {
       is = not-closed (c .args .lexeme .now) k (c .in-Some .ensures tt ∙ ap (firstOf quotes) (c .as-bytes .ensures .value)) (c .if-closes .ensures tt ∙ ap (closedBy (delimiterOf k)) (c .as-bytes-in-Some .ensures .value));
-      short = tt
+      short = tt;
     }

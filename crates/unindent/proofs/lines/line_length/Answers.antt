@@ -11,7 +11,7 @@ returns-then-n-bytes c =
     record {
       is = ap (λ n. n + 1) (c .leading-n .ensures .is) ∙ length-found bs (subst (λ n. n < length bs) (c .leading-n .ensures .is) (c .if-n-bytes .taken));
       within = omega arith;
-      some = λ h. omega arith
+      some = λ h. omega arith;
     }
 
 pub returns-else-n-bytes : need.returns-else-n-bytes
@@ -20,5 +20,5 @@ returns-else-n-bytes c =
     record {
       is = c .leading-n .ensures .is ∙ length-whole bs (subst (λ n. length bs ≤ n) (c .leading-n .ensures .is) (c .if-n-bytes .left));
       within = c .leading-n .ensures .within;
-      some = λ h. omega arith
+      some = λ h. omega arith;
     }
