@@ -1,8 +1,8 @@
 ghost use mathlib.Core.Path.{_≡_};
 ghost use mathlib.Core.Bool.{cond};
 ghost use mathlib.Core.List.{[], _∷_};
-ghost use Prim.Native.Nat.{_<_};
-ghost use lib.ListN.{length, getD, set as put-at};
+ghost use Prim.Native.Nat.{_<_, _≤_};
+ghost use lib.ListN.{length, getD, set as put-at, take};
 ghost use Rattle.stack.specs.Held.{held, stacked, room as roomOf, fits, first, behind, at as entryAt};
 use crate::record::Stack;
 
@@ -12,6 +12,14 @@ fn item<T: Copy>(slots: &[T], i: usize) -> T
     ensures { λ r. ⌜ r ≡ getD (now (slots .entry)) i r ⌝ }
 {
     slots[i]
+}
+
+// The first elements of a table.
+fn front<T: Copy>(slots: &[T], n: usize) -> &[T]
+    requires { ⌜ n ≤ length (now slots) ⌝ }
+    ensures { λ r. ⌜ now r ≡ take n (now (slots .entry)) ⌝ }
+{
+    &slots[0..n]
 }
 
 // Writes one element of a table.
@@ -47,6 +55,13 @@ impl<'t, T: Copy + Drop> Stack<'t, T> {
         } else {
             None
         }
+    }
+
+    // All entries, the oldest first.
+    pub fn entries(&self) -> &[T]
+        ensures { λ r. ⌜ now r ≡ held (now (self .entry)) ⌝ }
+    {
+        front(self.slots, self.len())
     }
 
     // The newest entry.

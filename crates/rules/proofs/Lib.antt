@@ -1,0 +1,6 @@
+pub mod Cases
+pub mod Picked
+pub mod Passes
+pub mod Fitting
+pub mod Starting
+pub mod Ruled

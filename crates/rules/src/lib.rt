@@ -1,0 +1,16 @@
+// The lexing rules: what stands next, from what lies ahead and what is open. No rule knows an offset, a line, a column or the size of a table.
+
+mod effects;
+mod found;
+mod parts;
+
+pub use effects::effect;
+pub use found::Around;
+pub use found::Found;
+pub use found::Layout;
+pub use parts::Change;
+pub use parts::Effect;
+pub use parts::Move;
+pub use parts::Reach;
+pub use parts::Rule;
+pub use parts::Start;
