@@ -129,13 +129,13 @@ stood Indents t s w = record {
   levels = record { offset = t .position .offset; length = t .length } ∷ w .levels;
   body = w .inner .colon;
   ended = w .ended;
-  inner = changed Nothing t s (w .inner)
+  inner = changed Nothing t s (w .inner);
 }
 stood Dedents t s w = record {
   levels = behind (w .levels);
   body = false;
   ended = w .ended;
-  inner = record { openers = w .inner .openers; mark = w .inner .mark; colon = false; formats = false }
+  inner = record { openers = w .inner .openers; mark = w .inner .mark; colon = false; formats = false };
 }
 stood Texts t s w = record { levels = w .levels; body = w .body; ended = w .ended; inner = changed Nothing t s (w .inner) }
 stood Ends t s w = record { levels = w .levels; body = w .body; ended = true; inner = changed Nothing t s (w .inner) }
@@ -147,5 +147,5 @@ after σ t = record {
   text = σ .text;
   rooms = σ .rooms;
   place = walk (t .length) (ahead σ) (σ .place);
-  standing = stood (effectOf (t .kind)) t (seen t (ahead σ)) (σ .standing)
+  standing = stood (effectOf (t .kind)) t (seen t (ahead σ)) (σ .standing);
 }

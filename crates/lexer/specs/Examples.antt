@@ -42,18 +42,18 @@ examples =
     faulty (codes "&") [] cause.UnexpectedEndOfToken 0 1 1 0 ∷
     clean (codes "(") (tok kind.ParenL 0 0 0 1 ∷ tok kind.Eof 0 1 1 0 ∷ []) ∷
     faulty (codes "a:\n  b\n c")
-      (tok kind.Identifier 0 0 0 1 ∷ tok kind.Colon 0 1 1 1 ∷ tok kind.Eol 0 2 2 1 ∷ tok kind.Indent 1 0 3 2 ∷ tok kind.Text 1 2 5 1 ∷ tok kind.Eol 1 3 6 1 ∷ [])
-      cause.InconsistentLeadingWhitespace 2 0 7 1 ∷
+    (tok kind.Identifier 0 0 0 1 ∷ tok kind.Colon 0 1 1 1 ∷ tok kind.Eol 0 2 2 1 ∷ tok kind.Indent 1 0 3 2 ∷ tok kind.Text 1 2 5 1 ∷ tok kind.Eol 1 3 6 1 ∷ [])
+    cause.InconsistentLeadingWhitespace 2 0 7 1 ∷
     faulty (codes "a:\n  b\n \tc")
-      (tok kind.Identifier 0 0 0 1 ∷ tok kind.Colon 0 1 1 1 ∷ tok kind.Eol 0 2 2 1 ∷ tok kind.Indent 1 0 3 2 ∷ tok kind.Text 1 2 5 1 ∷ tok kind.Eol 1 3 6 1 ∷ [])
-      cause.MixedLeadingWhitespace 2 0 7 2 ∷
+    (tok kind.Identifier 0 0 0 1 ∷ tok kind.Colon 0 1 1 1 ∷ tok kind.Eol 0 2 2 1 ∷ tok kind.Indent 1 0 3 2 ∷ tok kind.Text 1 2 5 1 ∷ tok kind.Eol 1 3 6 1 ∷ [])
+    cause.MixedLeadingWhitespace 2 0 7 2 ∷
     faulty (codes "a:\n {{")
-      (tok kind.Identifier 0 0 0 1 ∷ tok kind.Colon 0 1 1 1 ∷ tok kind.Eol 0 2 2 1 ∷ tok kind.Indent 1 0 3 1 ∷ tok kind.InterpolationStart 1 1 4 2 ∷ [])
-      cause.UnterminatedInterpolation 1 1 4 2 ∷
+    (tok kind.Identifier 0 0 0 1 ∷ tok kind.Colon 0 1 1 1 ∷ tok kind.Eol 0 2 2 1 ∷ tok kind.Indent 1 0 3 1 ∷ tok kind.InterpolationStart 1 1 4 2 ∷ [])
+    cause.UnterminatedInterpolation 1 1 4 2 ∷
     clean (codes "a:\n {{{{x")
-      (tok kind.Identifier 0 0 0 1 ∷ tok kind.Colon 0 1 1 1 ∷ tok kind.Eol 0 2 2 1 ∷ tok kind.Indent 1 0 3 1 ∷ tok kind.Text 1 1 4 5 ∷ tok kind.Dedent 1 6 9 0 ∷ tok kind.Eof 1 6 9 0 ∷ []) ∷
+    (tok kind.Identifier 0 0 0 1 ∷ tok kind.Colon 0 1 1 1 ∷ tok kind.Eol 0 2 2 1 ∷ tok kind.Indent 1 0 3 1 ∷ tok kind.Text 1 1 4 5 ∷ tok kind.Dedent 1 6 9 0 ∷ tok kind.Eof 1 6 9 0 ∷ []) ∷
     clean (codes "f'a{{b}}c'")
-      (tok kind.Identifier 0 0 0 1 ∷ tok kind.FormatStringStart 0 1 1 4 ∷ tok kind.Identifier 0 5 5 1 ∷ tok kind.FormatStringEnd 0 6 6 4 ∷ tok kind.Eof 0 10 10 0 ∷ []) ∷
+    (tok kind.Identifier 0 0 0 1 ∷ tok kind.FormatStringStart 0 1 1 4 ∷ tok kind.Identifier 0 5 5 1 ∷ tok kind.FormatStringEnd 0 6 6 4 ∷ tok kind.Eof 0 10 10 0 ∷ []) ∷
     []
 
 abbrev pub rooms : Rooms

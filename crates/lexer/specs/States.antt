@@ -1,9 +1,10 @@
 -- A session: where it stands, and what the tokens handed out left open.
-use mathlib.Core.Bool.{Bool, true, false, cond}
+use mathlib.Core.Bool.{Bool, false}
 use mathlib.Core.List.{List, [], _∷_, map}
-use Prim.Native.Nat.{ℕ, _+_}
+use Prim.Native.Nat.{ℕ}
 use lib.Dec.{eqb}
-use lib.ListN.{length, take, drop}
+use lib.ListN.{drop}
+use Rattle.source.specs.Sources.{part}
 use Rattle.std.specs.Options.{isSome}
 use Rattle.std.specs.declared.option.Option.{Option}
 use Rattle.std.specs.declared.option.Option.the-variants.{Some, None}
@@ -46,7 +47,7 @@ opening text rooms = record {
   text = text;
   rooms = rooms;
   place = origin;
-  standing = record { levels = []; body = false; ended = false; inner = record { openers = []; mark = None; colon = false; formats = false } }
+  standing = record { levels = []; body = false; ended = false; inner = record { openers = []; mark = None; colon = false; formats = false } };
 }
 
 -- the bytes ahead
@@ -55,7 +56,7 @@ ahead σ = drop (σ .place .offset) (σ .text)
 
 -- the part of a text over which a span stands
 abbrev pub spanned : List ℕ → Span → List ℕ
-spanned text s = take (s .length) (drop (s .offset) text)
+spanned text s = part text (s .offset) (s .length)
 
 abbrev pub levelTexts : State → List (List ℕ)
 levelTexts σ = map (spanned (σ .text)) (σ .standing .levels)
@@ -70,7 +71,7 @@ around σ = record {
   newest = newest (σ .standing .inner .openers);
   marked = isSome (σ .standing .inner .mark);
   body = σ .standing .body;
-  formats = σ .standing .inner .formats
+  formats = σ .standing .inner .formats;
 }
 
 -- what the rules find
