@@ -11,6 +11,7 @@ pub use picks::general;
 pub use picks::nested;
 pub use steps::Steps;
 pub use steps::passed;
+pub use strings::format_kind;
 pub use walk::CommentSteps;
 pub use walk::OverComment;
 pub use walk::OverString;

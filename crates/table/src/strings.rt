@@ -5,7 +5,7 @@ ghost use Prim.Native.Nat.{_+_, _<_, _≤_};
 ghost use lib.ListN.{drop, length};
 ghost use Rattle.scan.specs.Prefix.{begins};
 ghost use Rattle.token.specs.Strings.{delimiterOf, quoteByte};
-ghost use Rattle.rules.specs.Strings.{continuation as continuationOf, formatting as formattingOf, kindOf, leads as leadsOf, opened as openedBy, quotation as quotationOf, reach as reachOf, reaches, resumed as resumedBy, stringOf, stringToken, unterminated as unterminatedBy};
+ghost use Rattle.rules.specs.Strings.{continuation as continuationOf, formatKind, formatting as formattingOf, kindOf, leads as leadsOf, opened as openedBy, quotation as quotationOf, reach as reachOf, reaches, resumed as resumedBy, stringOf, stringToken, unterminated as unterminatedBy};
 ghost use Rattle.rules.specs.Scans.{closing};
 use crate::steps::passed;
 use crate::walk::OverString;
@@ -136,4 +136,15 @@ pub(crate) fn quotation(delimiter: StringDelimiter, formats: bool, ahead: &[u8])
 {
     let kind = kind_of(delimiter, ahead);
     string(kind, formatting(delimiter) && formats, ahead)
+}
+
+// The kind of a format string, by what it begins with.
+pub fn format_kind(lexeme: &[u8]) -> StringKind
+    ensures { λ r. ⌜ r ≡ formatKind (now (lexeme .entry)) ⌝ }
+{
+    if starts(lexeme, b"\"") {
+        kind_of(StringDelimiter::QuoteDouble, lexeme)
+    } else {
+        kind_of(StringDelimiter::QuoteSingle, lexeme)
+    }
 }
