@@ -17,7 +17,7 @@ use Rattle.rules.specs.declared.found.Found.the-variants.{Lexed, Fails, Unclos
 use Rattle.rules.specs.declared.found.Layout.the-variants as layout
 use Rattle.rules.specs.declared.parts.Start.{Start}
 use Rattle.rules.specs.declared.parts.Start.the-variants.{Still, Aligned, Outward, Inward, Wrong}
-use Rattle.rules.specs.Scans.{closing, crlf, empty, lf, lineOver, opening, overText, scan}
+use Rattle.rules.specs.Scans.{closing, crlf, empty, lf, lineOver, overText, scan}
 use Rattle.rules.specs.Table.{general, nested}
 
 -- the texts of the open Indents stand innermost first

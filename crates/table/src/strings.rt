@@ -2,7 +2,7 @@ ghost use mathlib.Core.Bool.{true};
 ghost use mathlib.Core.List.{[], _∷_};
 ghost use mathlib.Core.Path.{_≡_};
 ghost use Prim.Native.Nat.{_+_, _<_, _≤_};
-ghost use lib.ListN.{drop, length};
+ghost use lib.ListN.{length};
 ghost use Rattle.scan.specs.Prefix.{begins};
 ghost use Rattle.token.specs.Strings.{delimiterOf, quoteByte};
 ghost use Rattle.rules.specs.Strings.{continuation as continuationOf, formatKind, formatting as formattingOf, kindOf, leads as leadsOf, opened as openedBy, quotation as quotationOf, reach as reachOf, reaches, resumed as resumedBy, stringOf, stringToken, unterminated as unterminatedBy};
