@@ -8,7 +8,6 @@ use crate::reads::mixed;
 use crate::reads::outdents;
 use crate::reads::same;
 use rules::Around;
-use rules::Found;
 use rules::Layout;
 use rules::Start;
 use scan::Gap;
@@ -17,7 +16,6 @@ use scan::leading;
 use scan::starts;
 use table::at_line_end;
 use table::nested;
-use token::TokenKind;
 
 // Whether a line end comes first, or nothing does.
 fn line_over(ahead: &[u8]) -> bool
