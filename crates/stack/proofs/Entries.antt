@@ -28,7 +28,7 @@ pub pushed : {T : Type 0} (xs : List T) (n : ℕ) (x : T) → n < length xs → 
 pushed xs n x h = ap reverse (take-more-set xs n x h) ∙ reverse-append (take n xs) (x ∷ [])
 
 -- the entries counted are the entries there are
-clamped : {T : Type 0} (k : ℕ) (xs : List T) → take (length (take k xs)) xs ≡ take k xs
+pub clamped : {T : Type 0} (k : ℕ) (xs : List T) → take (length (take k xs)) xs ≡ take k xs
 clamped zero xs = refl
 clamped (suc k) [] = refl
 clamped (suc k) (x ∷ xs) = ap (λ ys. x ∷ ys) (clamped k xs)

@@ -1,8 +1,8 @@
 ghost use mathlib.Core.Path.{_≡_};
 ghost use mathlib.Core.Bool.{cond};
 ghost use mathlib.Core.List.{[], _∷_};
-ghost use Prim.Native.Nat.{_<_};
-ghost use lib.ListN.{length, getD, set as put-at};
+ghost use Prim.Native.Nat.{_<_, _≤_};
+ghost use lib.ListN.{length, getD, set as put-at, take};
 ghost use Rattle.stack.specs.Held.{held, stacked, room as roomOf, fits, first, behind, at as entryAt};
 use crate::record::Stack;
 
@@ -12,6 +12,15 @@ fn item<T: Copy>(slots: &[T], i: usize) -> T
     ensures { λ r. ⌜ r ≡ getD (now (slots .entry)) i r ⌝ }
 {
     slots[i]
+}
+
+// The first elements of a table.
+fn front<T: Copy>(slots: &[T], n: usize) -> &[T]
+    requires { ⌜ n ≤ length (now slots) ⌝ }
+    ensures { λ r. ⌜ now r ≡ take n (now (slots .entry)) ⌝ }
+{
+    let (front, _) = slots.split_at(n);
+    front
 }
 
 // Writes one element of a table.
@@ -36,6 +45,14 @@ impl<'t, T: Copy + Drop> Stack<'t, T> {
         ensures { λ r. ⌜ r ≡ length (held (now (self .entry))) ⌝ }
     {
         self.count.min(self.slots.len())
+    }
+
+    // The entries, oldest first.
+    pub fn entries(&self) -> &[T]
+        ensures { λ r. ⌜ now r ≡ held (now (self .entry)) ⌝ }
+    {
+        let n = self.len();
+        front(self.slots, n)
     }
 
     // The entry at a place, the oldest at 0.
