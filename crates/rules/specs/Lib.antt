@@ -1,4 +1,3 @@
-pub mod Causes
 pub mod Scans
 pub mod Strings
 pub mod Table

@@ -75,10 +75,6 @@ stringOf k format s = opened k (length (delimiterOf k)) (reach k format (drop (l
 abbrev pub quotation : StringDelimiter → (formats : Bool) → List ℕ → Found
 quotation q formats s = stringOf (kindOf q s) (formatting q && formats) s
 
--- the kind of a format string, by what it begins with
-abbrev pub formatKind : List ℕ → StringKind
-formatKind s = kindOf (cond (begins (34 ∷ []) s) quote.QuoteDouble quote.QuoteSingle) s
-
 -- a format string from the }} of its interpolation on
 abbrev pub resumed : StringKind → Reach → Found
 resumed k (Closes m) = Lexed kind.FormatStringEnd (2 + m)

@@ -1,6 +1,5 @@
 // The lexing rules: what stands next, from what lies ahead and what is open. No rule knows an offset, a line, a column or the size of a table.
 
-mod causes;
 mod effects;
 mod examples;
 mod found;

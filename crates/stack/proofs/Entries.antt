@@ -33,7 +33,7 @@ clamped zero xs = refl
 clamped (suc k) [] = refl
 clamped (suc k) (x ∷ xs) = ap (λ ys. x ∷ ys) (clamped k xs)
 
-within : {T : Type 0} (k : ℕ) (xs : List T) → length (take k xs) ≤ length xs
+pub within : {T : Type 0} (k : ℕ) (xs : List T) → length (take k xs) ≤ length xs
 within k xs = omega (arith, length-take k xs)
 
 module _ {T : Type 0} (k : ℕ) (xs : List T) where

@@ -19,8 +19,7 @@ fn front<T: Copy>(slots: &[T], n: usize) -> &[T]
     requires { ⌜ n ≤ length (now slots) ⌝ }
     ensures { λ r. ⌜ now r ≡ take n (now (slots .entry)) ⌝ }
 {
-    let (front, _) = slots.split_at(n);
-    front
+    &slots[0..n]
 }
 
 // Writes one element of a table.
@@ -47,14 +46,6 @@ impl<'t, T: Copy + Drop> Stack<'t, T> {
         self.count.min(self.slots.len())
     }
 
-    // The entries, oldest first.
-    pub fn entries(&self) -> &[T]
-        ensures { λ r. ⌜ now r ≡ held (now (self .entry)) ⌝ }
-    {
-        let n = self.len();
-        front(self.slots, n)
-    }
-
     // The entry at a place, the oldest at 0.
     pub fn get(&self, i: usize) -> Option<T>
         ensures { λ r. ⌜ r ≡ entryAt (held (now (self .entry))) i ⌝ }
@@ -64,6 +55,13 @@ impl<'t, T: Copy + Drop> Stack<'t, T> {
         } else {
             None
         }
+    }
+
+    // All entries, the oldest first.
+    pub fn entries(&self) -> &[T]
+        ensures { λ r. ⌜ now r ≡ held (now (self .entry)) ⌝ }
+    {
+        front(self.slots, self.len())
     }
 
     // The newest entry.

@@ -1,11 +1,12 @@
-ghost use mathlib.Core.Bool.{true};
+ghost use mathlib.Core.Bool.{cond, true};
 ghost use mathlib.Core.List.{[], _∷_};
 ghost use mathlib.Core.Path.{_≡_};
 ghost use Prim.Native.Nat.{_+_, _<_, _≤_};
 ghost use lib.ListN.{length};
 ghost use Rattle.scan.specs.Prefix.{begins};
 ghost use Rattle.token.specs.Strings.{delimiterOf, quoteByte};
-ghost use Rattle.rules.specs.Strings.{continuation as continuationOf, formatKind, formatting as formattingOf, kindOf, leads as leadsOf, opened as openedBy, quotation as quotationOf, reach as reachOf, reaches, resumed as resumedBy, stringOf, stringToken, unterminated as unterminatedBy};
+ghost use Rattle.token.specs.declared.kinds.StringDelimiter.the-variants.{QuoteDouble, QuoteSingle};
+ghost use Rattle.rules.specs.Strings.{continuation as continuationOf, formatting as formattingOf, kindOf, leads as leadsOf, opened as openedBy, quotation as quotationOf, reach as reachOf, reaches, resumed as resumedBy, stringOf, stringToken, unterminated as unterminatedBy};
 ghost use Rattle.rules.specs.Scans.{closing};
 use crate::steps::passed;
 use crate::walk::OverString;
@@ -140,7 +141,7 @@ pub(crate) fn quotation(delimiter: StringDelimiter, formats: bool, ahead: &[u8])
 
 // The kind of a format string, by what it begins with.
 pub fn format_kind(lexeme: &[u8]) -> StringKind
-    ensures { λ r. ⌜ r ≡ formatKind (now (lexeme .entry)) ⌝ }
+    ensures { λ r. ⌜ r ≡ cond (begins (34 ∷ []) (now (lexeme .entry))) (kindOf QuoteDouble (now (lexeme .entry))) (kindOf QuoteSingle (now (lexeme .entry))) ⌝ }
 {
     if starts(lexeme, b"\"") {
         kind_of(StringDelimiter::QuoteDouble, lexeme)

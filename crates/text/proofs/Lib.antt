@@ -1,4 +1,4 @@
 mod Turns
 mod Written
-mod Seams
+pub mod Seams
 mod Cooks

@@ -15,9 +15,10 @@ use Rattle.std.proofs.shelf.Tests.{and-parts, or-cases, both-ways, leb-true, ne
 use Rattle.std.proofs.shelf.Text.{encode-ascii, utf8-append, utf8-drop, utf8-nil, utf8-take}
 use Rattle.scan.specs.Classes.{gap}
 use Rattle.unindent.specs.Cuts.{lineLength}
-use Rattle.unindent.specs.Lines.{blank, endsCrlf, grows, lines, none, piece, pieces, roomy, allRoomy}
+use Rattle.unindent.specs.Lines.{blank, endsCrlf, grows, indentation, lines, none, piece, pieces, roomy, allRoomy, unindented}
 use Rattle.unindent.specs.Left.{left, whole}
 use Rattle.unindent.specs.declared.record.Pieces.{Pieces}
+use Rattle.unindent.proofs.Shared.{all-room}
 use Rattle.unindent.proofs.Split.{first-line, cut-bound, gap-bound, length-some}
 
 pub not-empty : (n : ℕ) → false ≡ eqb n 0 → 0 < n
@@ -93,6 +94,9 @@ texts (suc k) first n (b ∷ bs) l u r =
     (utf8-append _ _
     (line-text first (eqb (length after) 0) n line (utf8-take all m u c) (line-room n all line after h refl refl r))
     (texts k false n after shorter (utf8-drop all m u c) (after-room n all line after h refl refl r)))
+
+pub unindented-text : (bs : List ℕ) → Utf8 bs → Utf8 (unindented bs)
+unindented-text bs u = texts (length bs) true (length (indentation (lines bs))) bs (omega arith) u (all-room (lines bs))
 
 pub pieces-text : (p : Pieces) → Utf8 (p .rest .now) → Utf8 (joined (λ q. q) (left p))
 pieces-text p u = by (p .indented)

@@ -1,0 +1,3 @@
+mod Longest
+mod Plain
+mod Sound
