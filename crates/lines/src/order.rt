@@ -1,9 +1,6 @@
-ghost use mathlib.Core.Bool.{false};
 ghost use mathlib.Core.Path.{_≡_};
-ghost use Prim.Native.Nat.{_≤_};
-ghost use lib.ListN.{length};
 ghost use Rattle.rules.specs.Laws.{Sound};
-ghost use Rattle.rules.specs.Lines.{body as bodyOf, finish as finishOf, onward as onwardOf, orElse, rule as ruleOf, space as spaceOf, stop as stopOf, told as toldOf};
+ghost use Rattle.rules.specs.Lines.{body as bodyOf, finish as finishOf, onward as onwardOf, rule as ruleOf, space as spaceOf, stop as stopOf, told as toldOf};
 ghost use Rattle.lines.specs.Levels.{textsOf};
 use crate::levels::Levels;
 use crate::starts::start;

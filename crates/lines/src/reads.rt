@@ -1,9 +1,7 @@
 ghost use mathlib.Core.Bool.{_&&_, false};
 ghost use mathlib.Core.Path.{_≡_};
-ghost use Prim.Native.Nat.{_≤_};
-ghost use lib.ListN.{length};
 ghost use Rattle.rules.specs.Lines.{among as amongOf, has as hasOf, indented as indentedOf, innermost as innermostOf, mixed as mixedOf, outdents as outdentsOf, same as sameOf};
-ghost use Rattle.lines.specs.Levels.{part as partOf, texts, textsOf};
+ghost use Rattle.lines.specs.Levels.{part as partOf, textsOf};
 use crate::levels::Levels;
 use scan::ByteClass;
 use scan::White;

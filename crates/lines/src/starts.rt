@@ -1,10 +1,6 @@
-ghost use mathlib.Core.Bool.{false};
 ghost use mathlib.Core.Path.{_≡_};
-ghost use Prim.Native.Nat.{_≤_};
 ghost use lib.ListN.{length, take};
-ghost use Rattle.std.specs.shelf.Lists.{leading as leadingOf};
-ghost use Rattle.scan.specs.Classes.{gap};
-ghost use Rattle.rules.specs.Lines.{blankLine, deeper as deeperOf, indentation as indentationOf, start as startAt, told as toldOf};
+ghost use Rattle.rules.specs.Lines.{blankLine, deeper as deeperOf, indentation as indentationOf, start as startAt};
 ghost use Rattle.rules.specs.Scans.{lineOver};
 ghost use Rattle.lines.specs.Levels.{textsOf};
 use crate::levels::Levels;
@@ -12,7 +8,6 @@ use crate::reads::mixed;
 use crate::reads::outdents;
 use crate::reads::same;
 use rules::Around;
-use rules::Found;
 use rules::Layout;
 use rules::Start;
 use scan::Gap;
@@ -21,7 +16,6 @@ use scan::leading;
 use scan::starts;
 use table::at_line_end;
 use table::nested;
-use token::TokenKind;
 
 // Whether a line end comes first, or nothing does.
 fn line_over(ahead: &[u8]) -> bool

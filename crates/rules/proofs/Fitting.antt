@@ -1,19 +1,17 @@
 -- What the rules find fits.
-use mathlib.Core.Bool.{Bool, true, false, cond, not, _&&_, _||_}
+use mathlib.Core.Bool.{Bool, true, false, cond, _&&_}
 use mathlib.Core.List.{List, [], _∷_}
-use mathlib.Core.Logic.{_⊎_, inl, inr}
-use mathlib.Core.Path.{_≡_, refl, sym, ap, _∙_, subst}
-use Prim.Native.Nat.{ℕ, zero, suc, _+_, _-_, _<_, _≤_}
+use mathlib.Core.Path.{_≡_, refl, sym, ap}
+use Prim.Native.Nat.{ℕ, _+_, _-_, _<_, _≤_}
 use native.Mathlib.Omega.{arith}
 use lib.Dec.{eqb}
-use lib.ListN.{drop, length, replicate, take}
+use lib.ListN.{drop, length}
 use Rattle.std.proofs.shelf.Lists.{length-drop}
 use Rattle.std.proofs.shelf.Sums.{leading-le-length}
 use Rattle.std.proofs.shelf.Tests.{or-left}
 use Rattle.std.specs.Options.{isSome}
 use Rattle.std.specs.declared.option.Option.{Option}
 use Rattle.std.specs.declared.option.Option.the-variants.{Some, None}
-use Rattle.std.specs.shelf.Lists.{leading}
 use Rattle.scan.specs.Classes.{gap}
 use Rattle.scan.specs.Prefix.{begins}
 use Rattle.scan.proofs.Prefixes.{begins-fits}
@@ -29,14 +27,13 @@ use Rattle.rules.specs.declared.found.Around.{Around}
 use Rattle.rules.specs.declared.found.Found.{Found}
 use Rattle.rules.specs.declared.parts.Reach.{Reach}
 use Rattle.rules.specs.declared.parts.Reach.the-variants.{Closes, Pauses, Ends}
-use Rattle.rules.specs.declared.parts.Rule.{Rule}
 use Rattle.rules.specs.declared.parts.Rule.the-variants as rule
 use Rattle.rules.specs.Effects.{effectOf}
 use Rattle.rules.specs.Laws.{Fits, Shaped, Sound}
 use Rattle.rules.specs.Picks.{admits}
-use Rattle.rules.specs.Scans.{closing as closingBraces, crlf, empty, lf, overComment, scan}
-use Rattle.rules.specs.Strings.{continuation, formatting, kindOf, opened, quotation, reach, reaches, resumed, stringOf, stringToken}
-use Rattle.rules.specs.Table.{bang, brace, byRule, closing, colon, continuing, endOfLine, equals, escape, firstOf, folded, formatOf, general, letter, missing, nameByte, nested, pick, plus, separator, shape, stray, table, twice}
+use Rattle.rules.specs.Scans.{closing as closingBraces, crlf, empty, lf, overComment}
+use Rattle.rules.specs.Strings.{formatting, kindOf, opened, quotation, reach, reaches, resumed, stringOf, stringToken}
+use Rattle.rules.specs.Table.{bang, brace, byRule, closing, colon, continuing, endOfLine, equals, escape, firstOf, folded, formatOf, general, letter, missing, nameByte, nested, plus, separator, shape, stray, table, twice}
 use Rattle.rules.proofs.Cases.{by}
 use Rattle.rules.proofs.Passes.{comment-some, delimiter-some, leading-some, reach-le, scan-le, some, width-le}
 use Rattle.rules.proofs.Picked.{Held, looked-up, picked}

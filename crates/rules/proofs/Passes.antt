@@ -1,7 +1,7 @@
 -- How far scans go.
 use mathlib.Core.Bool.{Bool, true, false, cond, _&&_, _||_}
 use mathlib.Core.List.{List, [], _∷_}
-use mathlib.Core.Logic.{_⊎_, inl, inr}
+use mathlib.Core.Logic.{inl, inr}
 use mathlib.Core.Path.{_≡_, refl, sym, ap, _∙_, subst}
 use Prim.Native.Nat.{ℕ, zero, suc, _+_, _-_, _<_, _≤_}
 use native.Mathlib.Numerals.{one-add}
@@ -9,9 +9,8 @@ use native.Mathlib.Omega.{arith}
 use lib.Count.{leading-le}
 use lib.Dec.{eqb}
 use lib.ListN.{drop, length, replicate, take}
-use Rattle.std.proofs.shelf.Lists.{length-drop, length-take}
-use Rattle.std.proofs.shelf.Sums.{leading-le-length}
-use Rattle.std.proofs.shelf.Tests.{and-cases, and-parts, cases-bool, eq-eqb, eqb-true, false≢true, or-left, or-parts, or-right, true≢false}
+use Rattle.std.proofs.shelf.Lists.{length-drop}
+use Rattle.std.proofs.shelf.Tests.{and-cases, and-parts, cases-bool, eq-eqb, eqb-true, false≢true, or-parts, true≢false}
 use Rattle.std.specs.shelf.Lists.{leading}
 use Rattle.scan.specs.Classes.{gap}
 use Rattle.scan.specs.Prefix.{begins}
@@ -21,12 +20,10 @@ use Rattle.token.specs.declared.kinds.StringKind.{StringKind}
 use Rattle.utf8.specs.Utf8.{leadingOnes, shownLength}
 use Rattle.rules.specs.declared.parts.Move.{Move}
 use Rattle.rules.specs.declared.parts.Move.the-variants.{Stop, Pass}
-use Rattle.rules.specs.declared.parts.Reach.{Reach}
 use Rattle.rules.specs.Lines.{has, mixed}
 use Rattle.rules.specs.Picks.{firstIs}
 use Rattle.rules.specs.Scans.{character, doubled, empty, lineEnd, moves, opening, overComment, overText, scan, width}
 use Rattle.rules.specs.Strings.{leads, overString, reach, reaches}
-use Rattle.rules.specs.Table.{letter, nameByte}
 use Rattle.rules.proofs.Cases.{by}
 
 pub some : (s : List ℕ) → empty s ≡ false → 0 < length s

@@ -1,13 +1,12 @@
 -- What the start of a line finds fits.
-use mathlib.Core.Bool.{Bool, true, false, cond, not, _&&_, _||_}
+use mathlib.Core.Bool.{true, false, not, _&&_, _||_}
 use mathlib.Core.List.{List, [], _∷_}
-use mathlib.Core.Logic.{_⊎_, inl, inr}
-use mathlib.Core.Path.{_≡_, refl, sym, ap, _∙_, subst}
-use Prim.Native.Nat.{ℕ, zero, suc, min, _+_, _-_, _<_, _≤_}
+use mathlib.Core.Logic.{inl, inr}
+use mathlib.Core.Path.{_≡_, refl, sym, _∙_}
+use Prim.Native.Nat.{ℕ, _-_, _<_, _≤_}
 use native.Mathlib.Omega.{arith}
-use lib.Dec.{eqb}
-use lib.ListN.{drop, length, replicate, take}
-use Rattle.std.proofs.shelf.Lists.{drop-all, length-drop, length-take, length-take-le}
+use lib.ListN.{drop, length, take}
+use Rattle.std.proofs.shelf.Lists.{length-drop, length-take, length-take-le}
 use Rattle.std.proofs.shelf.Sums.{leading-le-length}
 use Rattle.std.proofs.shelf.Tests.{and-cases, and-parts, false≢true, not-from-false, or-parts, true≢false}
 use Rattle.std.specs.shelf.Lists.{leading}
@@ -15,7 +14,6 @@ use Rattle.scan.specs.Classes.{gap}
 use Rattle.scan.specs.Prefix.{begins}
 use Rattle.scan.proofs.Prefixes.{begins-fits}
 use Rattle.rules.specs.declared.found.Around.{Around}
-use Rattle.rules.specs.declared.found.Layout.the-variants as layout
 use Rattle.rules.specs.declared.parts.Start.{Start}
 use Rattle.rules.specs.declared.parts.Start.the-variants.{Still, Aligned, Outward, Inward, Wrong}
 use Rattle.rules.specs.Laws.{Deepens}

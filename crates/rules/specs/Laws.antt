@@ -12,7 +12,6 @@ use Rattle.std.specs.declared.option.Option.the-variants.{Some, None}
 use Rattle.scan.specs.Classes.{gap}
 use Rattle.scan.specs.Prefix.{begins}
 use Rattle.token.specs.declared.kinds.Delimiter.{Delimiter}
-use Rattle.token.specs.declared.kinds.StringKind.{StringKind}
 use Rattle.rules.specs.declared.found.Around.{Around}
 use Rattle.rules.specs.declared.found.Found.{Found}
 use Rattle.rules.specs.declared.found.Found.the-variants.{Lexed, Fails, Unclosed}

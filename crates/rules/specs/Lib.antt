@@ -5,3 +5,4 @@ pub mod Picks
 pub mod Lines
 pub mod Effects
 pub mod Laws
+pub mod Samples

@@ -17,7 +17,7 @@ use Rattle.rules.specs.declared.found.Found.the-variants.{Lexed, Fails, Unclos
 use Rattle.rules.specs.declared.found.Layout.the-variants as layout
 use Rattle.rules.specs.declared.parts.Start.{Start}
 use Rattle.rules.specs.declared.parts.Start.the-variants.{Still, Aligned, Outward, Inward, Wrong}
-use Rattle.rules.specs.Scans.{closing, crlf, empty, lf, lineOver, opening, overText, scan}
+use Rattle.rules.specs.Scans.{closing, crlf, empty, lf, lineOver, overText, scan}
 use Rattle.rules.specs.Table.{general, nested}
 
 -- the texts of the open Indents stand innermost first
@@ -51,11 +51,11 @@ abbrev pub outdents : Bool → List ℕ → Bool
 outdents fed [] = false
 outdents fed (c ∷ s) = cond (white c) (outdents (eqb c 10) s) fed
 
--- rule 1: a line of blanks
+-- a line of blanks only
 abbrev pub blankLine : (levels : List (List ℕ)) → ℕ → List ℕ → Start
 blankLine levels n s = cond (indented levels && outdents false s) Outward (Still n)
 
--- rules 4 to 8: w is the run of n blanks, neither empty nor an open Indent, and l the innermost Indent
+-- a run w of n blanks that is neither empty nor an open Indent, where l is the innermost: a body takes what it shares with l and leaves the rest to Text
 abbrev pub deeper : (body : Bool) → (l : List ℕ) → ℕ → List ℕ → Start
 deeper body l n w =
     cond (body && begins l w) (Aligned (length l))
@@ -64,7 +64,7 @@ deeper body l n w =
     (cond (begins l w) (Inward n)
     (Wrong layout.InconsistentLeadingWhitespace n))))
 
--- rules 2 to 8
+-- a run w of n blanks before something else than a line end
 abbrev pub indentation : (body : Bool) → (levels : List (List ℕ)) → ℕ → List ℕ → Start
 indentation body levels n w =
     cond (same w (innermost levels)) (Aligned n)

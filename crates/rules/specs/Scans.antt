@@ -1,5 +1,5 @@
 -- Scans over what lies ahead.
-use mathlib.Core.Bool.{Bool, true, false, cond, not, _&&_, _||_}
+use mathlib.Core.Bool.{Bool, true, false, cond, _||_}
 use mathlib.Core.List.{List, [], _∷_}
 use Prim.Native.Nat.{ℕ, zero, suc, pred}
 use Rattle.scan.specs.Prefix.{begins}

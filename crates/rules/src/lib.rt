@@ -1,10 +1,12 @@
 // The lexing rules: what stands next, from what lies ahead and what is open. No rule knows an offset, a line, a column or the size of a table.
 
 mod effects;
+mod examples;
 mod found;
 mod parts;
 
 pub use effects::effect;
+pub use examples::samples_hold;
 pub use found::Around;
 pub use found::Found;
 pub use found::Layout;

@@ -1,7 +1,7 @@
 ghost use mathlib.Core.Bool.{true, false};
 ghost use mathlib.Core.Path.{_≡_};
 ghost use Prim.Native.Nat.{_≤_};
-ghost use lib.ListN.{drop, length};
+ghost use lib.ListN.{length};
 ghost use Rattle.rules.specs.Picks.{admits};
 ghost use Rattle.rules.specs.Scans.{empty, width as widthOf};
 ghost use Rattle.rules.specs.Table.{bang as bangOf, brace as braceOf, byRule, closing as closingOf, colon as colonOf, endOfLine, equals as equalsOf, escape as escapeOf, firstOf, folded as foldedOf, formatOf, general as generalOf, missing as missingOf, nameByte, nested as nestedOf, pick as pickOf, plus as plusOf, separator as separatorOf, shape as shapeOf, stray as strayOf, twice as twiceOf};

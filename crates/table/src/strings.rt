@@ -1,10 +1,11 @@
-ghost use mathlib.Core.Bool.{true};
+ghost use mathlib.Core.Bool.{cond, true};
 ghost use mathlib.Core.List.{[], _∷_};
 ghost use mathlib.Core.Path.{_≡_};
 ghost use Prim.Native.Nat.{_+_, _<_, _≤_};
-ghost use lib.ListN.{drop, length};
+ghost use lib.ListN.{length};
 ghost use Rattle.scan.specs.Prefix.{begins};
 ghost use Rattle.token.specs.Strings.{delimiterOf, quoteByte};
+ghost use Rattle.token.specs.declared.kinds.StringDelimiter.the-variants.{QuoteDouble, QuoteSingle};
 ghost use Rattle.rules.specs.Strings.{continuation as continuationOf, formatting as formattingOf, kindOf, leads as leadsOf, opened as openedBy, quotation as quotationOf, reach as reachOf, reaches, resumed as resumedBy, stringOf, stringToken, unterminated as unterminatedBy};
 ghost use Rattle.rules.specs.Scans.{closing};
 use crate::steps::passed;
@@ -136,4 +137,15 @@ pub(crate) fn quotation(delimiter: StringDelimiter, formats: bool, ahead: &[u8])
 {
     let kind = kind_of(delimiter, ahead);
     string(kind, formatting(delimiter) && formats, ahead)
+}
+
+// The kind of a format string, by what it begins with.
+pub fn format_kind(lexeme: &[u8]) -> StringKind
+    ensures { λ r. ⌜ r ≡ cond (begins (34 ∷ []) (now (lexeme .entry))) (kindOf QuoteDouble (now (lexeme .entry))) (kindOf QuoteSingle (now (lexeme .entry))) ⌝ }
+{
+    if starts(lexeme, b"\"") {
+        kind_of(StringDelimiter::QuoteDouble, lexeme)
+    } else {
+        kind_of(StringDelimiter::QuoteSingle, lexeme)
+    }
 }

@@ -1,7 +1,5 @@
 ghost use mathlib.Core.Bool.{_&&_, _||_, false, true};
 ghost use mathlib.Core.Path.{_≡_};
-ghost use Prim.Native.Nat.{ℕ};
-ghost use lib.ListN.{length};
 ghost use Rattle.scan.specs.Prefix.{begins};
 ghost use Rattle.token.specs.Strings.{delimiterOf};
 ghost use Rattle.rules.specs.Scans.{character as characterOf, lineEnd, opening, overComment, overText};

@@ -1,4 +1,4 @@
-use mathlib.Core.Path.{_≡_, sym, _∙_}
+use mathlib.Core.Path.{sym, _∙_}
 use Rattle.lines.proofs.Runs.{has-all, has-no, has-yes}
 use Rattle.lines.proofs.reads.has.Needs as need
 

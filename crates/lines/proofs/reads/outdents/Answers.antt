@@ -1,4 +1,4 @@
-use mathlib.Core.Path.{_≡_, sym, _∙_}
+use mathlib.Core.Path.{sym, _∙_}
 use Rattle.lines.proofs.Runs.{outdents-all, outdents-here, outdents-on}
 use Rattle.lines.proofs.reads.outdents.Needs as need
 

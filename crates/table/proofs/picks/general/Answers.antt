@@ -1,5 +1,4 @@
-use mathlib.Core.Bool.{true}
-use mathlib.Core.Path.{_≡_, ap, _∙_}
+use mathlib.Core.Path.{ap, _∙_}
 use Rattle.rules.specs.Picks.{admits}
 use Rattle.rules.specs.Table.{pick}
 use Rattle.rules.proofs.Picked.{picked}

@@ -1,4 +1,4 @@
-use mathlib.Core.Path.{_≡_, sym}
+use mathlib.Core.Path.{sym}
 use native.Mathlib.Omega.{arith}
 use Rattle.table.proofs.Turns.{turn-stop, turn-pass, turn-end}
 use Rattle.table.proofs.steps.passed.Needs as need

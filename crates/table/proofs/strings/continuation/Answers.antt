@@ -1,6 +1,5 @@
 use mathlib.Core.Bool.{true}
-use mathlib.Core.Path.{_≡_, ap, _∙_}
-use lib.ListN.{drop}
+use mathlib.Core.Path.{ap, _∙_}
 use Rattle.std.proofs.shelf.Lists.{take-rest}
 use Rattle.rules.specs.Strings.{reach, resumed}
 use Rattle.table.proofs.strings.continuation.Needs as need

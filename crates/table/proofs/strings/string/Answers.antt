@@ -1,4 +1,4 @@
-use mathlib.Core.Path.{_≡_, ap, _∙_}
+use mathlib.Core.Path.{ap, _∙_}
 use lib.ListN.{drop, length}
 use Rattle.std.proofs.shelf.Lists.{take-rest}
 use Rattle.rules.specs.Strings.{opened, reach}

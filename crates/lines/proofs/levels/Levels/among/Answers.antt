@@ -1,6 +1,6 @@
-use mathlib.Core.Bool.{_||_, false, true}
+use mathlib.Core.Bool.{_||_}
 use mathlib.Core.List.{map, reverse}
-use mathlib.Core.Path.{_≡_, sym, ap, _∙_}
+use mathlib.Core.Path.{sym, ap, _∙_}
 use Prim.Native.Nat.{_-_}
 use native.Mathlib.Omega.{arith}
 use lib.ListN.{length, take}

@@ -1,5 +1,5 @@
 use mathlib.Core.Bool.{not}
-use mathlib.Core.Path.{_≡_, ap, _∙_}
+use mathlib.Core.Path.{ap, _∙_}
 use Rattle.lines.specs.Levels.{part}
 use Rattle.lines.proofs.Texts.{indented-some}
 use Rattle.lines.proofs.levels.Levels.indented.Needs as need

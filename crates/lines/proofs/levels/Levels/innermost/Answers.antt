@@ -1,9 +1,7 @@
-use mathlib.Core.Path.{_≡_, sym, _∙_}
-use Prim.Native.Nat.{_<_}
+use mathlib.Core.Path.{sym, _∙_}
 use native.Mathlib.Omega.{arith}
 use lib.ListN.{length}
 use Rattle.std.proofs.shelf.Tests.{eqb-false, eqb-true}
-use Rattle.token.specs.declared.place.Span.{Span}
 use Rattle.lines.specs.Levels.{part}
 use Rattle.lines.proofs.Texts.{innermost-last, innermost-none}
 use Rattle.lines.proofs.levels.Levels.innermost.Needs as need
