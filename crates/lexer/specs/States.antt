@@ -3,8 +3,7 @@ use mathlib.Core.Bool.{Bool, false}
 use mathlib.Core.List.{List, [], _∷_, map}
 use Prim.Native.Nat.{ℕ}
 use lib.Dec.{eqb}
-use lib.ListN.{drop}
-use Rattle.source.specs.Sources.{part}
+use lib.ListN.{drop, take}
 use Rattle.std.specs.Options.{isSome}
 use Rattle.std.specs.declared.option.Option.{Option}
 use Rattle.std.specs.declared.option.Option.the-variants.{Some, None}
@@ -56,7 +55,7 @@ ahead σ = drop (σ .place .offset) (σ .text)
 
 -- the part of a text over which a span stands
 abbrev pub spanned : List ℕ → Span → List ℕ
-spanned text s = part text (s .offset) (s .length)
+spanned text s = take (s .length) (drop (s .offset) text)
 
 abbrev pub levelTexts : State → List (List ℕ)
 levelTexts σ = map (spanned (σ .text)) (σ .standing .levels)

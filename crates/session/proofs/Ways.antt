@@ -39,7 +39,7 @@ first-within x r k h =
     let u : Utf8 (x ∷ take k r) = bound-front (x ∷ r) (suc k) h in
     let f = first-of x (take k r) u in
     let e : x ∷ r ≡ encode (f .char) ++ (f .rest ++ drop k r) =
-        ap (λ l. x ∷ l) (sym (take-append-drop k r)) ∙ ap (λ l. l ++ drop k r) (f .split) ∙ append-assoc (encode (f .char)) (f .rest) (drop k r) in
+    ap (λ l. x ∷ l) (sym (take-append-drop k r)) ∙ ap (λ l. l ++ drop k r) (f .split) ∙ append-assoc (encode (f .char)) (f .rest) (drop k r) in
     let n : character (x ∷ r) ≡ length (encode (f .char)) = ap character e ∙ character-encode (f .char) (f .rest ++ drop k r) (f .is) in
     let l : length (x ∷ take k r) ≡ length (encode (f .char)) + length (f .rest) = ap length (f .split) ∙ length-append (encode (f .char)) (f .rest) in
     omega (arith, n, l, length-take-le k r (let w = bound-within (x ∷ r) (suc k) h in omega arith))
@@ -80,7 +80,7 @@ onward-start s n h = record {
   near = omega arith;
   before = omega arith;
   between = bound-whole (textOf (s .source)) (s .source .valid) (s .position .offset) (s .between) n h;
-  at = refl
+  at = refl;
 }
 
 -- and goes on by a character
@@ -106,7 +106,7 @@ module _ (s a b : Cursor) (end : ℕ) (on : Onward s a end) (l : a .position .of
     near = omega (arith, offset, fits);
     before = omega (arith, offset, on .before);
     between = on .between;
-    at = way ∙ on .at
+    at = way ∙ on .at;
   }
     where
       more : ℕ

@@ -16,8 +16,8 @@ stateOf s = record {
     levels = stacked (s .levels);
     body = s .body;
     ended = s .ended;
-    inner = record { openers = stacked (s .openers); mark = s .mark; colon = s .colon; formats = s .formats }
-  }
+    inner = record { openers = stacked (s .openers); mark = s .mark; colon = s .colon; formats = s .formats };
+  };
 }
 
 -- a session that stands otherwise, at the same place

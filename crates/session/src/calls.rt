@@ -48,7 +48,8 @@ impl<'a, 't> Session<'a, 't> {
     pub fn glance(&mut self) -> Result<Option<Token>, Fault>
         ensures { λ r. ⌜ Glances (stateOf (now (self .entry))) r (stateOf (now (self .exit))) ⌝ }
     {
-        self.answer()
+        let coming = self.answer();
+        coming
     }
 
     // Where the session is.

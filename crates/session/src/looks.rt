@@ -31,6 +31,11 @@ impl<'a, 't> Session<'a, 't> {
             text,
             spans: self.levels.entries(),
         };
-        rule(self.cursor.position().column == 0, self.around(), levels, self.cursor.rest())
+        rule(
+            self.cursor.position().column == 0,
+            self.around(),
+            levels,
+            self.cursor.rest(),
+        )
     }
 }
