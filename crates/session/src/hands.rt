@@ -5,9 +5,8 @@ ghost use lib.ListN.{take};
 ghost use Rattle.std.specs.declared.option.Option.the-variants.{None, Some};
 ghost use Rattle.std.specs.declared.result.Result.the-variants.{Ok};
 ghost use Rattle.rules.specs.Lines.{same};
-ghost use Rattle.rules.specs.Strings.{kindOf};
 ghost use Rattle.stack.specs.Held.{fits, stacked};
-ghost use Rattle.lexer.specs.Answers.{after, answer as answerOf, behind, changed, quoteOf, seen as seenOf, stood};
+ghost use Rattle.lexer.specs.Answers.{after, answer as answerOf, behind, changed, seen as seenOf, stood};
 ghost use Rattle.source.specs.Cursors.{ahead as aheadOf};
 ghost use Rattle.session.specs.Able.{Able, Open};
 ghost use Rattle.session.specs.Sessions.{innerOf, opened, stands, stateOf, turned};
@@ -18,36 +17,10 @@ use rules::Change;
 use rules::Effect;
 use rules::effect;
 use scan::starts;
+use table::format_kind;
 use token::Delimiter;
 use token::Span;
-use token::StringDelimiter;
-use token::StringKind;
 use token::Token;
-
-// Three of a quote, if they come first, else one.
-fn kind_of(delimiter: StringDelimiter, ahead: &[u8]) -> StringKind
-    ensures { λ r. ⌜ r ≡ kindOf delimiter (now (ahead .entry)) ⌝ }
-{
-    let three = StringKind {
-        delimiter,
-        indented: true,
-    };
-    StringKind {
-        delimiter,
-        indented: starts(ahead, three.delimiter().as_bytes()),
-    }
-}
-
-// The kind of the quoted string that begins here.
-fn quote(ahead: &[u8]) -> StringKind
-    ensures { λ r. ⌜ r ≡ quoteOf (now (ahead .entry)) ⌝ }
-{
-    if starts(ahead, b"\"") {
-        kind_of(StringDelimiter::QuoteDouble, ahead)
-    } else {
-        kind_of(StringDelimiter::QuoteSingle, ahead)
-    }
-}
 
 // The first bytes, so many, or all.
 fn front(ahead: &[u8], n: usize) -> &[u8]
@@ -70,7 +43,7 @@ impl<'a, 't> Session<'a, 't> {
     {
         let ahead = self.cursor.rest();
         Seen {
-            quote: quote(ahead),
+            quote: format_kind(ahead),
             f: is_f(front(ahead, t.length as usize)),
         }
     }
