@@ -1,5 +1,7 @@
 // Reads a text from standard input, admits it, and prints how many bytes and lines it has and where it ends; or prints the fault and ends with status 1.
 
+#![tactic(auto)]
+
 use anyhow::anyhow;
 use std::io::Read;
 use survey::{report_line, survey};

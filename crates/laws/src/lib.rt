@@ -1,4 +1,6 @@
 // The law on runs: whatever calls come in whatever order.
+#![tactic(auto)]
+
 ghost use Rattle.laws.specs.Laws.{EveryRunLawful};
 
 use stream::TokenSource;

@@ -1,5 +1,7 @@
 // A session over a text: what it answers, and how each token leaves it.
 
+#![tactic(auto)]
+
 mod examples;
 mod seen;
 

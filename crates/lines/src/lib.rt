@@ -1,5 +1,7 @@
 // The start of a line, the body of a recipe, and which rule comes when.
 
+#![tactic(auto)]
+
 mod ahead;
 mod levels;
 mod order;

@@ -1,5 +1,7 @@
 // The whole listing of a text.
 
+#![tactic(auto)]
+
 ghost use Rattle.std.specs.Prelude.{◌≡◌, ◌≤◌, false, ◌++◌, length, IfOk, OnOk};
 ghost use Rattle.token.specs.Told.{refusal};
 ghost use Rattle.source.specs.Sources.{text_of};

@@ -1,5 +1,7 @@
 // The lines that the programs print.
 
+#![tactic(auto)]
+
 mod entry;
 mod laying;
 mod line;

@@ -1,5 +1,7 @@
 // Unquotes a list of literals, one for each line of standard input in hexadecimal, and prints for each the place, length and bytes of its text, or its fault.
 
+#![tactic(auto)]
+
 use listing::fault_line;
 use std::alloc::{AllocError, Global};
 use std::num::ParseIntError;

@@ -1,5 +1,7 @@
 // The lexing rules: what stands next, from what lies ahead and what is open. No rule knows an offset, a line, a column or the size of a table.
 
+#![tactic(auto)]
+
 mod effects;
 mod examples;
 mod found;

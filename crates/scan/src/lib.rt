@@ -1,5 +1,7 @@
 // Runs of bytes of one class.
 
+#![tactic(auto)]
+
 ghost use Rattle.std.specs.Prelude.{◌≡◌, ℕ, ◌≤◌, Bool, length, nat_eq};
 ghost use Rattle.std.specs.List.{common_prefix_len as common_of, prefix_len as leading_of};
 ghost use Rattle.scan.specs.Classes.{gap, white, in_line};

@@ -1,5 +1,7 @@
 // A session over a text: it looks at what comes next, and goes on once a token is handed out.
 
+#![tactic(auto)]
+
 mod answers;
 mod calls;
 mod hands;

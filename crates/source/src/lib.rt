@@ -1,5 +1,7 @@
 // Texts: admission, places, and the parts that tokens stand for.
 
+#![tactic(auto)]
+
 mod admission;
 mod cursor;
 mod lexeme;

@@ -1,5 +1,5 @@
 -- What a stack holds.
-use Rattle.std.specs.Prelude.{ℕ, zero, suc, Bool, cond, List, [], ◌∷◌, reverse, length, take, Some, None, Option, nat_lt}
+use Rattle.std.specs.Prelude.{ℕ, zero, suc, Bool, List, [], ◌∷◌, reverse, length, take, Some, None, Option, nat_lt}
 use Rattle.stack.specs.declared.record.Stack.{Stack}
 
 -- the entries, oldest first

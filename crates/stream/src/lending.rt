@@ -5,7 +5,7 @@ ghost use Rattle.stream.specs.Lending.{lent_state};
 ghost use Rattle.stream.specs.SessionSources.{Moves, Stays};
 
 use crate::lent::Lent;
-use crate::source::TokenSource;
+use crate::sourced::TokenSource;
 use session::Session;
 use token::{Fault, Token};
 

@@ -1,5 +1,7 @@
 // Sources of tokens: a session, a stored roll, and the layer that leaves out Whitespace; and string literals over any of them.
 
+#![tactic(auto)]
+
 mod layer;
 mod lending;
 mod lent;
@@ -9,7 +11,7 @@ mod roll;
 mod rolls;
 mod sessions;
 mod significant;
-mod source;
+mod sourced;
 
 pub use layer::Significant;
 pub use lent::Lent;
@@ -17,4 +19,4 @@ pub use literals::literal;
 pub use past::{glance_past, next_past};
 pub use roll::Roll;
 pub use rolls::MAX_TOKENS;
-pub use source::TokenSource;
+pub use sourced::TokenSource;

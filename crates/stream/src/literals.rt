@@ -3,7 +3,7 @@ ghost use Rattle.token.specs.Told.{told};
 ghost use Rattle.source.specs.Sources.{text_of};
 ghost use Rattle.stream.specs.Literals.{Literals, literal_buffer, literal_of};
 
-use crate::source::TokenSource;
+use crate::sourced::TokenSource;
 use source::Source;
 use text::text;
 use token::{Cause, Fault, Layer, Position, Token, TokenKind};

@@ -1,7 +1,7 @@
 ghost use Rattle.stream.specs.Sources.{Glances, Nexts};
 ghost use Rattle.stream.specs.Sifted.{Past, Shown, sifted};
 
-use crate::source::TokenSource;
+use crate::sourced::TokenSource;
 use token::{Fault, Token, TokenKind};
 
 // The first token to come that is no Whitespace, or the ending. Whitespace before it is taken off.

@@ -4,7 +4,7 @@ ghost use Rattle.runs.specs.Coming.{tell};
 ghost use Rattle.stream.specs.Rolled.{coming, forward, means, rolled};
 
 use crate::roll::Roll;
-use crate::source::TokenSource;
+use crate::sourced::TokenSource;
 use stack::Stack;
 use token::{Fault, Token};
 

@@ -1,6 +1,6 @@
 ghost use Rattle.stream.specs.SessionSources.{SessionMoves, SessionStays, session_means};
 
-use crate::source::TokenSource;
+use crate::sourced::TokenSource;
 use session::Session;
 use token::{Fault, Token};
 

@@ -3,7 +3,7 @@ ghost use Rattle.stream.specs.Layers.{LayerMoves, LayerStays, layered};
 
 use crate::layer::Significant;
 use crate::past::{glance_past, next_past};
-use crate::source::TokenSource;
+use crate::sourced::TokenSource;
 use token::{Fault, Token};
 
 impl<S: TokenSource> Significant<S> {

@@ -1,5 +1,7 @@
 // What there is to tell of a whole text: its bytes, its lines and its end, or why it is not admitted.
 
+#![tactic(auto)]
+
 mod report;
 mod summary;
 mod walk;

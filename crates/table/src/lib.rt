@@ -1,5 +1,7 @@
 // The general table, strings, and the scans over what lies ahead.
 
+#![tactic(auto)]
+
 mod picks;
 mod steps;
 mod strings;

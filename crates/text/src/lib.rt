@@ -1,5 +1,7 @@
 // The text that a string literal stands for.
 
+#![tactic(auto)]
+
 mod call;
 mod cooking;
 mod feeding;

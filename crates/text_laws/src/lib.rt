@@ -1,5 +1,7 @@
 // The laws of string texts, and worked examples, each as the promise of a function.
 
+#![tactic(auto)]
+
 ghost use Rattle.text_laws.specs.Examples.{ExamplesHold};
 ghost use Rattle.text_laws.specs.Laws.{StringTextsLawful};
 

@@ -1,8 +1,7 @@
-ghost use Rattle.std.specs.Prelude.{◌≡◌, Decides};
+ghost use Rattle.std.specs.Prelude.{◌≡◌, ◌==◌, Decides};
 ghost use Rattle.token.specs.Causes.{number_of};
 ghost use Rattle.std.specs.Cmp.Rules.{comparing};
 ghost use Rattle.std.proofs.Common.{rules};
-ghost use Rattle.std.specs.Cmp as Keys;
 
 use crate::place::Position;
 
@@ -40,11 +39,14 @@ pub enum Cause {
 }
 
 impl PartialEq for Cause {
-    ghost equals = { λ x y r. Decides r (x ≡ y) };
+    ghost eq = { λ x y. number_of x == number_of y };
 
-    ghost laws = { Keys.partial_equiv_from_equiv (Prim.search (comparing, rules)) };
+    ghost laws = { Prim.search (comparing, rules) };
 
-    fn eq(&self, other: &Cause) -> bool {
+    fn eq(&self, other: &Cause) -> bool
+        ensures answer { result ≡ (number_of self.now == number_of other.now) }
+        ensures decides { Decides result (self.now ≡ other.now) }
+    {
         *self as u8 == *other as u8
     }
 }

@@ -3,7 +3,6 @@ ghost use Rattle.token.specs.Ordinals.{ordinal as ordinal_of, same_kind};
 ghost use Rattle.token.specs.Strings.{delimiter_of, escapes_in};
 ghost use Rattle.std.specs.Cmp.Rules.{comparing};
 ghost use Rattle.std.proofs.Common.{rules};
-ghost use Rattle.std.specs.Cmp as Keys;
 
 // Every kind of token that is handed out.
 #[derive(Clone, Copy)]
@@ -62,11 +61,14 @@ impl TokenKind {
 }
 
 impl PartialEq for TokenKind {
-    ghost equals = { λ x y r. (r ≡ same_kind x y) × Decides r (x ≡ y) };
+    ghost eq = { same_kind };
 
-    ghost laws = { Keys.partial_equiv_from_equiv (Prim.search (comparing, rules)) };
+    ghost laws = { Prim.search (comparing, rules) };
 
-    fn eq(&self, other: &TokenKind) -> bool {
+    fn eq(&self, other: &TokenKind) -> bool
+        ensures answer { result ≡ same_kind self.now other.now }
+        ensures decides { Decides result (self.now ≡ other.now) }
+    {
         self.ordinal() == other.ordinal()
     }
 }

@@ -1,5 +1,7 @@
 // The records that every layer shares: places, tokens, delimiters and faults.
 
+#![tactic(auto)]
+
 mod fault;
 mod kinds;
 mod place;

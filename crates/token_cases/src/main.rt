@@ -1,6 +1,8 @@
 // Lists the tokens of a list of texts, one text for each line of standard input, and prints a line `--` behind each listing.
 // A line is a row of bytes in hexadecimal, parted by spaces; `61*65536` stands for 65,536 bytes 61.
 
+#![tactic(auto)]
+
 use lister::list;
 use std::io::{BufRead, BufReader, Write};
 

@@ -1,5 +1,7 @@
 // Reads a text from standard input and prints its tokens, a line for each; a fault ends them with a line of its own, and the program with status 1.
 
+#![tactic(auto)]
+
 use anyhow::anyhow;
 use lister::list;
 use std::io::{Read, Write};

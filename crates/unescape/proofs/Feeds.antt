@@ -1,6 +1,6 @@
 -- A text may be unescaped piece by piece.
-use Rattle.std.proofs.Common.{◌≡◌, ℕ, List, [], ◌∷◌, ◌++◌, Ok, Err, Option, Result, sym, refl, ap, ◌∙◌}
-use Rattle.std.proofs.lemmas.List.{append_assoc, append-nil}
+use Rattle.std.proofs.Common.{◌≡◌, ℕ, List, [], ◌∷◌, ◌++◌, Ok, Err, Result, sym, refl, ap, ◌∙◌}
+use Rattle.std.proofs.lemmas.List.{append_assoc}
 use Rattle.unescape.specs.Escapes.{Move, Fed, move, emit, before, onward, feed}
 use Rattle.unescape.specs.declared.record.Escape.{Escape}
 use Rattle.unescape.specs.declared.record.State.{State}

@@ -1,5 +1,5 @@
 -- Escape sequences: what a character does depends on the state it meets.
-use Rattle.std.specs.Prelude.{ℕ, ◌+◌, ◌-◌, ◌*◌, Bool, true, false, cond, ◌&&◌, ◌||◌, List, [], ◌∷◌, ◌++◌, Some, None, Ok, Err, Option, Result, ◌==◌, nat_le}
+use Rattle.std.specs.Prelude.{ℕ, ◌+◌, ◌-◌, ◌*◌, Bool, cond, ◌&&◌, ◌||◌, List, [], ◌∷◌, ◌++◌, Some, None, Ok, Err, Option, Result, ◌==◌, nat_le}
 use Rattle.std.proofs.Math.Utf8.{encode, scalar}
 use Rattle.std.specs.Str.{chars}
 use Rattle.unescape.specs.declared.record.Escape.{Escape}

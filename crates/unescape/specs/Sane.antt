@@ -1,5 +1,5 @@
 -- A value of so many hexadecimal digits, at most six.
-use Rattle.std.specs.Prelude.{ℕ, ◌^◌, Bool, true, ◌&&◌, nat_le, nat_lt}
+use Rattle.std.specs.Prelude.{◌^◌, Bool, true, ◌&&◌, nat_le, nat_lt}
 use Rattle.unescape.specs.declared.record.State.{State}
 use Rattle.unescape.specs.declared.record.State.TheVariants.{Raw, Initial, Backslash, BackslashCarriageReturn, Unicode, UnicodeValue}
 

@@ -1,5 +1,7 @@
 // Escape sequences of double-quoted strings, one character at a time.
 
+#![tactic(auto)]
+
 mod record;
 mod steps;
 

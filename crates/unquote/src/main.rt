@@ -1,5 +1,7 @@
 // Reads one string literal from standard input, with or without a line feed behind it, and prints the text that it stands for; or prints the fault and ends with status 1.
 
+#![tactic(auto)]
+
 use anyhow::anyhow;
 use listing::fault_line;
 use std::io::{Read, Write};

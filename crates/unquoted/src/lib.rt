@@ -1,5 +1,7 @@
 // A text that is one string literal.
 
+#![tactic(auto)]
+
 ghost use Rattle.std.specs.Prelude.{◌≡◌, length};
 ghost use Rattle.token.specs.Told.{told};
 ghost use Rattle.text.specs.Texts.{text_answer, text_buffer};

@@ -1,10 +1,9 @@
 -- Where the first bad sequence of bytes begins.
-use Rattle.std.proofs.Common.{◌≡◌, ℕ, zero, suc, pred, ◌+◌, ◌-◌, ◌<◌, ◌≤◌, Bool, true, false, cond, not, ◌&&◌, eqb, leb, ◌⊎◌, List, [], ◌∷◌, ◌++◌, length, take, drop, is_some, Some, None, IsUtf8, Option, sym, refl, ap, ◌∙◌, subst, inl, inr, ⊎_elim, arith, take-add}
+use Rattle.std.proofs.Common.{◌≡◌, ℕ, zero, suc, pred, ◌+◌, ◌-◌, ◌<◌, ◌≤◌, true, not, eqb, leb, List, [], ◌∷◌, ◌++◌, length, take, drop, is_some, Some, None, IsUtf8, Option, sym, refl, ap, ◌∙◌, subst, arith}
 use lib.Utf8.{scalars, scalar, encode, encodes}
-use Rattle.std.specs.Char.{len_utf8}
 use Rattle.std.specs.Str.{IsCharBoundary}
-use Rattle.std.proofs.lemmas.List.{append_assoc, append-nil, length-append, length-drop, length-take-le, take-append-drop, drop_at, drop-drop, take_rest}
-use Rattle.std.proofs.lemmas.Bool.{and_parts, and_from, cond-true, cond-false, ne_eqb, eq-eqb, eqb-true, eqb-false, leb-true, le-leb, cases_Bool, not-true, false≢true}
+use Rattle.std.proofs.lemmas.List.{append_assoc, append-nil, length-append, length-drop, take-append-drop, drop_at, drop-drop, take_rest}
+use Rattle.std.proofs.lemmas.Bool.{and_parts, and_from, cond-true, cond-false, ne_eqb, eq-eqb, leb-true, le-leb, false≢true}
 use Rattle.std.proofs.lemmas.Str.{IsUtf8-append, IsUtf8-take, IsCharBoundary-from_take, length-encode, len_utf8_bounds, IsUtf8-nil}
 use Rattle.utf8.specs.Utf8.{character, bad_from, first_bad_offset, well_formed, bound}
 use Rattle.utf8.proofs.Rows.{character_begun, character_encode}

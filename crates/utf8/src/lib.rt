@@ -1,5 +1,7 @@
 // UTF-8: which bytes are characters, and where the first ones stand that are not.
 
+#![tactic(auto)]
+
 mod grammar;
 mod scan;
 

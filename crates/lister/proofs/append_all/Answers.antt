@@ -12,7 +12,7 @@ use Rattle.lister.proofs.Steps.{clean_end, clean_fault, ending_on, fewer, listed
 use Rattle.lister.proofs.append_all.Goals as goal
 
 -- a token is answered, and the session goes on
-answered : (c : goal.In-ok-append) → (◌≡◌ {A = Result (Option Token) Fault} (Ok (Some c.in-Ok-Some.token)) (answer (state_of c.loop-token.session))) × (state_of c.next.new.self ≡ after (state_of c.loop-token.session) c.in-Ok-Some.token)
+answered : (c : goal.In_ok-append-in-Ok-Some) → (◌≡◌ {A = Result (Option Token) Fault} (Ok (Some c.in-Ok-Some.token)) (answer (state_of c.loop-token.session))) × (state_of c.next.new.self ≡ after (state_of c.loop-token.session) c.in-Ok-Some.token)
 answered c = (search rules, search rules)
 
 pub loop-token-smaller : goal.loop-token-smaller
@@ -24,7 +24,7 @@ loop-token-preserved c =
     let on = c.next.new.self in (
       ap (λ (σ : State). σ.text) (answered c).1 ∙ c.loop-token.invariant.0,
       sym (ending_on s on c.in-Ok-Some.token (answered c).0 (answered c).1) ∙ c.loop-token.invariant.1,
-      turn s on c.in-Ok-Some.token (answered c).0 (answered c).1 (text_of c.args.source.now) c.loop-token.invariant.0 (vec_items c.loop-token.out) (vec_items c.append.new.out) c.in-ok-append.ensures
+      turn s on c.in-Ok-Some.token (answered c).0 (answered c).1 (text_of c.args.source.now) c.loop-token.invariant.0 (vec_items c.loop-token.out) (vec_items c.append.new.out) c.in_ok-append-in-Ok-Some.ensures
           ∙ c.loop-token.invariant.2,
     )
 
@@ -45,6 +45,6 @@ returns-in-Err c =
     let n : ◌≡◌ {A = Result (Option Token) Fault} (Err f) (answer σ) = search rules in
     let last = ap (λ l. vec_items c.loop-token.out ++ l) (sym (listed_fault σ f n (text_of c.args.source.now))) ∙ c.loop-token.invariant.2 in
     record {
-      tells = IfOk-weaker c.append-fault.result _ _ (λ w e. e ∙ sym (clean_fault σ f n) ∙ ap clean c.loop-token.invariant.1) c.append-fault.ensures.tells;
-      appends = IfOk-weaker c.append-fault.result _ _ (λ w e. e ∙ last) c.append-fault.ensures.appends;
+      tells = IfOk-weaker c.append_fault.result _ _ (λ w e. e ∙ sym (clean_fault σ f n) ∙ ap clean c.loop-token.invariant.1) c.append_fault.ensures.tells;
+      appends = IfOk-weaker c.append_fault.result _ _ (λ w e. e ∙ last) c.append_fault.ensures.appends;
     }

@@ -15,6 +15,6 @@ returns c =
     let openers : room c.new-2.result ≡ 1024 = c.new-2.ensures.rooms in
     let o : state_of c.open-session.result ≡ opening text tables = c.open-session.ensures ∙ (λ i. opening text (record { levels = levels i; openers = openers i })) in
     record {
-      tells = IfOk-weaker c.append-all.result _ _ (λ w e. e ∙ clean_whole text tables _ o) c.append-all.ensures.tells;
-      appends = IfOk-weaker c.append-all.result _ _ (λ w e. e ∙ ap (λ l. vec_items c.args.out.now ++ l) (listed_whole text tables _ o)) c.append-all.ensures.appends;
+      tells = IfOk-weaker c.append_all.result _ _ (λ w e. e ∙ clean_whole text tables _ o) c.append_all.ensures.tells;
+      appends = IfOk-weaker c.append_all.result _ _ (λ w e. e ∙ ap (λ l. vec_items c.args.out.now ++ l) (listed_whole text tables _ o)) c.append_all.ensures.appends;
     }

@@ -12,7 +12,7 @@ at_once h p = simp append_assoc
 pub returns : goal.returns
 returns c =
     let before : Lays 0 (heading c.args.token) c.args.out.now c.heading-start.result c.heading-start.new.out = c.heading-start.ensures.lays in
-    let inside : Lays c.push-from.result (printed c.args.lexeme.now) c.push-from.new.out c.print-to.result c.print-to.new.out = lays_as (ap printed c.as-bytes.ensures.value) c.print-to.ensures.lays in
+    let inside : Lays c.push-from.result (printed c.args.lexeme.now) c.push-from.new.out c.print-to.result c.print-to.new.out = lays_as (ap printed c.as_bytes.ensures.value) c.print-to.ensures.lays in
     record {
       lays =
           lays_as (at_once (heading c.args.token) (printed c.args.lexeme.now))

@@ -6,8 +6,8 @@ use Rattle.source.specs.Sources.{text_of}
 use Rattle.session.proofs.Ways.{Onward, bound_within, onward_start, onward_on, onward_shorter}
 use Rattle.session.proofs.passing.pass.Goals as goal
 
-pub overflow-add-end : goal.overflow-add-end
-overflow-add-end c =
+pub overflow_add-end : goal.overflow_add-end
+overflow_add-end c =
     let s = c.args.cursor.now in
     omega (arith, ap (λ (p : Position). p.offset) c.position.ensures, bound_within (ahead s) c.args.n c.requires, s.within, s.source.small, length-drop s.position.offset (text_of s.source))
 

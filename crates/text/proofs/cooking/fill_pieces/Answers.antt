@@ -31,8 +31,8 @@ write-at-requires c =
     let so = ahead (left c.loop-piece.pieces) c.loop-piece.invariant p _ c.in-Some.ensures.gives c.in-Some.ensures.utf8 in
     ap (fits (feed c.loop-piece.machine.state (chars p))) (part_length c.loop-piece.at c.loop-piece.out) ∙ piece_fits (chars p) _ so
 
-pub overflow-add-at : goal.overflow-add-at
-overflow-add-at c =
+pub overflow_add-at : goal.overflow_add-at
+overflow_add-at c =
     let p = c.in-Some.piece.now in
     let so = ahead (left c.loop-piece.pieces) c.loop-piece.invariant p _ c.in-Some.ensures.gives c.in-Some.ensures.utf8 in
     let r = piece_room (chars p) _ so in
@@ -48,5 +48,5 @@ loop-piece-preserved c =
 pub returns : goal.returns
 returns c =
     let f = cooked_fits c.args.escapes (laid (left c.args.pieces)) _ (length c.args.out.now) c.new-machine.ensures (pieces_text c.args.pieces c.requires.utf8) c.requires.fits in
-    let end = sofar_end (done (left c.loop-piece.pieces) c.loop-piece.invariant c.in-default.ensures.gives.0) c.new-machine.result.state in
+    let end = sofar_end (done (left c.loop-piece.pieces) c.loop-piece.invariant c.in_default.ensures.gives.0) c.new-machine.result.state in
     end.2 ∙ ap (λ bs. onto bs c.args.out.now) (sym f.1)

@@ -12,8 +12,8 @@ pub returns-in-Some : goal.returns-in-Some
 returns-in-Some c = record {
   gives =
       stepped_ok c.args.machine.now.state _ c.args.c c.step.ensures.moves c.in-Ok.out c.in-Ok.ensures.gives
-      ∙ ap (λ o. Ok (c.step.new.self.state, width_of o)) c.in-Some.is ∙ ap (λ n. Ok (c.step.new.self.state, n)) (sym c.len-utf8.ensures.value);
-  small = c.len-utf8.ensures.upper-bound;
+      ∙ ap (λ o. Ok (c.step.new.self.state, width_of o)) c.in-Some.is ∙ ap (λ n. Ok (c.step.new.self.state, n)) (sym c.len_utf8.ensures.value);
+  small = c.len_utf8.ensures.upper_bound;
 }
 
 pub returns-in-Err : goal.returns-in-Err

@@ -4,21 +4,21 @@ use Rattle.std.proofs.lemmas.Str.{IsUtf8-past_char}
 use Rattle.text.proofs.Turns.{turn_on, turn_stop, turn_length, turn_end}
 use Rattle.text.proofs.feeding.pass.Goals as goal
 
-pub returns-in-err-size : goal.returns-in-err-size
-returns-in-err-size c =
-    let p = err_from_is_err_and c.from-residual.result c.from-residual.ensures.1 in
+pub returns-in_err-size : goal.returns-in_err-size
+returns-in_err-size c =
+    let p = err_from_is_err_and c.from_residual.result c.from_residual.ensures.1 in
     rw (p.1, p.2) (record {
       gives =
           sym c.loop-c.invariant.4
-          ∙ turn_stop c.loop-c.machine.state c.in-Some.c _ _ c.loop-c.invariant.2 c.in-Some.ensures.steps.0 c.loop-c.size _ c.in-err-size.ensures.gives;
+          ∙ turn_stop c.loop-c.machine.state c.in-Some.c _ _ c.loop-c.invariant.2 c.in-Some.ensures.steps.0 c.loop-c.size _ c.in_err-size.ensures.gives;
       small = tt;
       utf8 = search rules;
     })
 
-pub overflow-add-size : goal.overflow-add-size
-overflow-add-size c =
+pub overflow_add-size : goal.overflow_add-size
+overflow_add-size c =
     let t = turn_length c.loop-c.machine.state c.in-Some.c _ _ c.loop-c.invariant.2 c.in-Some.ensures.steps.0 in
-    omega (arith, t, c.in-ok-size.ensures.small, c.loop-c.invariant.3, c.requires)
+    omega (arith, t, c.in_ok-size.ensures.small, c.loop-c.invariant.3, c.requires)
 
 pub loop-c-preserved : goal.loop-c-preserved
 loop-c-preserved c =
@@ -27,8 +27,8 @@ loop-c-preserved c =
       tt,
       tt,
       IsUtf8-past_char _ _ _ c.loop-c.invariant.2 e,
-      omega (arith, t, c.in-ok-size.ensures.small, c.loop-c.invariant.3),
-      turn_on c.loop-c.machine.state c.in-Some.c _ _ c.loop-c.invariant.2 e _ c.loop-c.size _ c.in-ok-size.ensures.gives ∙ c.loop-c.invariant.4,
+      omega (arith, t, c.in_ok-size.ensures.small, c.loop-c.invariant.3),
+      turn_on c.loop-c.machine.state c.in-Some.c _ _ c.loop-c.invariant.2 e _ c.loop-c.size _ c.in_ok-size.ensures.gives ∙ c.loop-c.invariant.4,
     )
 
 pub returns : goal.returns

@@ -19,8 +19,8 @@ place-at-requires c =
     let so = ahead c.in-Some.c _ _ c.loop-c.invariant.2 c.in-Some.ensures.steps.0 c.loop-c.invariant.3 in
     ap (fits (feed c.loop-c.machine.state (c.in-Some.c ∷ []))) (part_length c.loop-c.at c.loop-c.out) ∙ piece_fits (c.in-Some.c ∷ []) _ so
 
-pub overflow-add-at : goal.overflow-add-at
-overflow-add-at c =
+pub overflow_add-at : goal.overflow_add-at
+overflow_add-at c =
     let so = ahead c.in-Some.c _ _ c.loop-c.invariant.2 c.in-Some.ensures.steps.0 c.loop-c.invariant.3 in
     let r = piece_room (c.in-Some.c ∷ []) _ so in
     omega (arith, r, c.place-at.ensures.is)

@@ -7,11 +7,11 @@ use Rattle.unindent.proofs.lines.indentation.Goals as goal
 pub loop-rest-preserved : goal.loop-rest-preserved
 loop-rest-preserved c =
     share_more _ _ c.loop-rest.rest.now _ _ (not_empty _ c.loop-rest-test.ensures)
-    (c.split-at.ensures.front ∙ ap (λ n. take n c.loop-rest.rest.now) c.line-length.ensures.is)
-    (c.split-at.ensures.back ∙ ap (λ n. drop n c.loop-rest.rest.now) c.line-length.ensures.is)
+    (c.split_at.ensures.front ∙ ap (λ n. take n c.loop-rest.rest.now) c.line_length.ensures.is)
+    (c.split_at.ensures.back ∙ ap (λ n. drop n c.loop-rest.rest.now) c.line_length.ensures.is)
     c.share-shared.ensures
     ∙ c.loop-rest.invariant
 
 pub returns : goal.returns
 returns c =
-    c.run-length.ensures ∙ ap length (share_end _ c.loop-rest.rest.now (eqb-true _ 0 (sym c.loop-rest-test.ensures)) ∙ c.loop-rest.invariant)
+    c.run_length.ensures ∙ ap length (share_end _ c.loop-rest.rest.now (eqb-true _ 0 (sym c.loop-rest-test.ensures)) ∙ c.loop-rest.invariant)

@@ -1,4 +1,4 @@
-use Rattle.std.proofs.Common.{◌≡◌, ◌≤◌, length, sym, subst}
+use Rattle.std.proofs.Common.{◌≤◌, length, sym, subst}
 use Rattle.utf8.specs.Utf8.{character}
 use Rattle.utf8.proofs.Rows.{character_begun}
 use Rattle.utf8.proofs.grammar.character.Goals as goal

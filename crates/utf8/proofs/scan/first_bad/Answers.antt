@@ -1,4 +1,4 @@
-use Rattle.std.proofs.Common.{◌≡◌, ℕ, length, None, sym, ap, ◌∙◌, arith}
+use Rattle.std.proofs.Common.{length, sym, ap, ◌∙◌, arith}
 use Rattle.std.proofs.lemmas.List.{at_drop_all, length-drop, take_rest}
 use Rattle.utf8.specs.Utf8.{bad_from}
 use Rattle.utf8.proofs.Bad.{turn_bad, turn_good}

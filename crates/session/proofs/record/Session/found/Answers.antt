@@ -7,5 +7,5 @@ use Rattle.session.proofs.record.Session.found.Goals as goal
 
 pub returns : goal.returns
 returns c =
-    let e : c.rule.result ≡ found (state_of c.args.self.now) = search rules in
+    let e : c.rule_from.result ≡ found (state_of c.args.self.now) = search rules in
     record { is = e; sized = subst (Sized (state_of c.args.self.now)) (sym e) (found_sized c.args.self.now) }

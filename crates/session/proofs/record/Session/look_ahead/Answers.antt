@@ -8,11 +8,14 @@ use Rattle.lines.specs.declared.reached.Reach.{Reach}
 use Rattle.session.proofs.Handed.{settled_here}
 use Rattle.session.proofs.record.Session.look_ahead.Goals as goal
 
-pub overflow-add-end : goal.overflow-add-end
-overflow-add-end c =
+pub overflow_add-end : goal.overflow_add-end
+overflow_add-end c =
     let s = c.args.self.now in
     omega
     (arith, ap (λ (r : Reach). r.length) c.blank-blank.ensures, prefix_len-le-length white (ahead s.cursor), length-drop s.cursor.position.offset (text_of s.cursor.source), s.cursor.within, s.cursor.source.small)
 
-pub invariant-of-self : goal.invariant-of-self
-invariant-of-self c = (c.args.self.now.shallow, (settled_here c.args.self.now c.offset.result c.blank-blank.result c.offset.ensures c.blank-blank.ensures, tt))
+pub invariant_of-self : goal.invariant_of-self
+invariant_of-self c = record {
+  shallow = c.args.self.now.shallow;
+  settled = settled_here c.args.self.now c.offset.result c.blank-blank.result c.offset.ensures c.blank-blank.ensures;
+}

@@ -27,37 +27,36 @@ moved s rest n q e m t b =
 pub beyond-self-requires : goal.beyond-self-requires
 beyond-self-requires c =
     let s = c.args.self.now in
-    let w = went s _ _ c.rest-rest.ensures (not_empty _ c.if-is-empty.ensures) c.character-length-n.ensures.agrees in
+    let w = went s _ _ c.rest-rest.ensures (not_empty _ c.if-is_empty.ensures) c.character_length-n.ensures.agrees in
     (omega (arith, w.0, w.1.room, s.source.small), s.near)
 
-pub invariant-of-self : goal.invariant-of-self
-invariant-of-self c =
+pub invariant_of-self : goal.invariant_of-self
+invariant_of-self c =
     let s = c.args.self.now in
-    let w = went s _ _ c.rest-rest.ensures (not_empty _ c.if-is-empty.ensures) c.character-length-n.ensures.agrees in
+    let w = went s _ _ c.rest-rest.ensures (not_empty _ c.if-is_empty.ensures) c.character_length-n.ensures.agrees in
     let o = behind_offset _ _ s.position _ c.beyond-self.ensures in
-    let n : c.beyond-self.result.offset ≡ s.position.offset + character c.rest-rest.result.now = o ∙ ap (λ k. s.position.offset + k) w.0 in (
-      omega (arith, n, w.1.room),
-      (
-        ap (bound (text_of s.source)) n ∙ w.1.next,
-        (behind_near _ _ s.position _ (omega (arith, w.0, w.1.there)) c.beyond-self.ensures s.near, tt),
-      ),
-    )
+    let n : c.beyond-self.result.offset ≡ s.position.offset + character c.rest-rest.result.now = o ∙ ap (λ k. s.position.offset + k) w.0 in
+    record {
+      within = omega (arith, n, w.1.room);
+      between = ap (bound (text_of s.source)) n ∙ w.1.next;
+      near = behind_near _ _ s.position _ (omega (arith, w.0, w.1.there)) c.beyond-self.ensures s.near;
+    }
 
-pub returns-then-is-empty : goal.returns-then-is-empty
-returns-then-is-empty c =
+pub returns-then-is_empty : goal.returns-then-is_empty
+returns-then-is_empty c =
     let s = c.args.self.now in
-    let z : length (ahead s) ≡ 0 = sym (ap length c.rest-rest.ensures) ∙ eqb-true _ 0 (sym c.if-is-empty.ensures) in
+    let z : length (ahead s) ≡ 0 = sym (ap length c.rest-rest.ensures) ∙ eqb-true _ 0 (sym c.if-is_empty.ensures) in
     record { answer = none_ahead (ahead s) z; moves = still (ahead s) (character (ahead s)) s.position z; keeps = refl }
 
 pub returns : goal.returns
 returns c =
     let s = c.args.self.now in
     let rest = c.rest-rest.result.now in
-    let w = went s rest c.character-length-n.result c.rest-rest.ensures (not_empty _ c.if-is-empty.ensures) c.character-length-n.ensures.agrees in
-    let b : c.beyond-self.result ≡ behind c.character-length-n.result (breaks rest) s.position =
-    c.beyond-self.ensures ∙ ap (λ t. behind c.character-length-n.result t s.position) c.breaks-line.ensures in
+    let w = went s rest c.character_length-n.result c.rest-rest.ensures (not_empty _ c.if-is_empty.ensures) c.character_length-n.ensures.agrees in
+    let b : c.beyond-self.result ≡ behind c.character_length-n.result (breaks rest) s.position =
+    c.beyond-self.ensures ∙ ap (λ t. behind c.character_length-n.result t s.position) c.breaks_line.ensures in
     record {
-      answer = some_ahead (ahead s) (subst (λ l. 0 < length l) c.rest-rest.ensures (not_empty _ c.if-is-empty.ensures));
+      answer = some_ahead (ahead s) (subst (λ l. 0 < length l) c.rest-rest.ensures (not_empty _ c.if-is_empty.ensures));
       moves = moved s rest _ _ c.rest-rest.ensures w.0 w.1 b;
       keeps = refl;
     }

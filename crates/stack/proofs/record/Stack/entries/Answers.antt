@@ -1,4 +1,4 @@
-use Rattle.std.proofs.Common.{◌≤◌, take, ap, ◌∙◌, arith}
+use Rattle.std.proofs.Common.{take, ap, ◌∙◌, arith}
 use Rattle.stack.proofs.Entries.{clamped, within}
 use Rattle.stack.proofs.record.Stack.entries.Goals as goal
 

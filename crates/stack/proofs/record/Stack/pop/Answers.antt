@@ -5,6 +5,6 @@ use Rattle.stack.proofs.record.Stack.pop.Goals as goal
 pub returns : goal.returns
 returns g c = record {
   answer = search rules;
-  holds = pop_less c.args.self.now.count c.args.self.now.slots.now c.saturating-sub-self.result (omega arith);
+  holds = pop_less c.args.self.now.count c.args.self.now.slots.now c.saturating_sub-self.result (omega arith);
   rooms = refl;
 }

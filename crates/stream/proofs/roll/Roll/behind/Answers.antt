@@ -3,18 +3,18 @@ use Rattle.stack.specs.Held.{held}
 use Rattle.stream.proofs.Rolling.{entry_first, none_first}
 use Rattle.stream.proofs.roll.Roll.behind.Goals as goal
 
-pub returns-then-self-lt-MAX-TOKENS : goal.returns-then-self-lt-MAX-TOKENS
-returns-then-self-lt-MAX-TOKENS c =
+pub returns-then-self-lt-MAX_TOKENS : goal.returns-then-self-lt-MAX_TOKENS
+returns-then-self-lt-MAX_TOKENS c =
     let s = c.args.self.now in
     record {
-      is = c.get.ensures ∙ entry_first (held s.tokens) s.cursor 98305 c.if-self-lt-MAX-TOKENS.true;
-      near = λ _. c.if-self-lt-MAX-TOKENS.true;
+      is = c.get.ensures ∙ entry_first (held s.tokens) s.cursor 98305 c.if-self-lt-MAX_TOKENS.true;
+      near = λ _. c.if-self-lt-MAX_TOKENS.true;
     }
 
-pub returns-else-self-lt-MAX-TOKENS : goal.returns-else-self-lt-MAX-TOKENS
-returns-else-self-lt-MAX-TOKENS c =
+pub returns-else-self-lt-MAX_TOKENS : goal.returns-else-self-lt-MAX_TOKENS
+returns-else-self-lt-MAX_TOKENS c =
     let s = c.args.self.now in
     record {
-      is = sym (none_first (held s.tokens) s.cursor 98305 c.if-self-lt-MAX-TOKENS.false);
+      is = sym (none_first (held s.tokens) s.cursor 98305 c.if-self-lt-MAX_TOKENS.false);
       near = λ h. absurd (let z : ◌≡◌ {A = ℕ} 0 1 = cc in omega arith);
     }

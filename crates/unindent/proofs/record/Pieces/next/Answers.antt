@@ -5,21 +5,20 @@ use Rattle.unindent.proofs.record.Pieces.next.Goals as goal
 
 pub piece-piece-requires : goal.piece-piece-requires
 piece-piece-requires c = record {
-  room = line_room c.args.self.now.indent _ _ _ (not_empty _ c.if-is-empty.ensures) c.cut.ensures.line c.cut.ensures.after c.args.self.now.room;
+  room = line_room c.args.self.now.indent _ _ _ (not_empty _ c.if-is_empty.ensures) c.cut.ensures.line c.cut.ensures.after c.args.self.now.room;
   some = omega (arith, c.cut.ensures.shorter, c.cut.ensures.parts);
 }
 
-pub invariant-of-self-2 : goal.invariant-of-self-2
-invariant-of-self-2 c = (
-  after_room c.args.self.now.indent _ _ _ (not_empty _ c.if-is-empty.ensures) c.cut.ensures.line c.cut.ensures.after c.args.self.now.room,
-  tt,
-)
+pub invariant_of-self-2 : goal.invariant_of-self-2
+invariant_of-self-2 c = record {
+  room = after_room c.args.self.now.indent _ _ _ (not_empty _ c.if-is_empty.ensures) c.cut.ensures.line c.cut.ensures.after c.args.self.now.room;
+}
 
 pub returns : goal.returns
 returns c =
     let s = c.args.self.now in
     let n =
-    next_piece s.indent _ _ _ (not_empty _ c.if-is-empty.ensures) c.cut.ensures.line c.cut.ensures.after s.first _ _ c.is-empty-2.ensures c.piece-piece.ensures.is in
+    next_piece s.indent _ _ _ (not_empty _ c.if-is_empty.ensures) c.cut.ensures.line c.cut.ensures.after s.first _ _ c.is_empty-2.ensures c.piece-piece.ensures.is in
     record {
       gives = cond-true s.indented _ _ c.if-not-self.false ∙ n ∙ ap (λ l. c.piece-piece.result.now ∷ l) (sym (cond-true s.indented _ _ c.if-not-self.false));
       shorter = c.cut.ensures.shorter;
