@@ -1,25 +1,24 @@
 -- Every call comes to what is next.
-use Rattle.std.proofs.Common.{◌≡◌, ℕ, Bool, true, false, cond, leb, List, [], ◌∷◌, ◌++◌, length, Some, None, Ok, Err, Option, Result, sym, refl, ap, ◌∙◌, subst, arith}
+use Rattle.std.proofs.Common.{◌≡◌, ℕ, leb, List, [], ◌∷◌, length, Some, None, Ok, Err, Option, Result, sym, refl, subst}
 use Rattle.token.specs.Ordinals.{same_kind}
-use Rattle.token.specs.Told.{Refusal, Told, gave, refusal, refused, refused_over, told}
+use Rattle.token.specs.Told.{Told, gave, refusal, refused, told}
 use Rattle.token.specs.declared.fault.Fault.{Fault}
-use Rattle.token.specs.declared.fault.Layer.{Layer}
 use Rattle.token.specs.declared.fault.Layer.TheVariants as layer
 use Rattle.token.specs.declared.kinds.StringKind.{StringKind}
 use Rattle.token.specs.declared.kinds.TokenKind.TheVariants as kind
 use Rattle.token.specs.declared.place.Position.{Position}
 use Rattle.token.specs.declared.place.Token.{Token}
-use Rattle.source.specs.Sources.{cuts, lexeme_in, part}
+use Rattle.source.specs.Sources.{cuts, lexeme_in}
 use Rattle.unescape.specs.declared.record.Escape.{Escape}
 use Rattle.text.specs.Cooked.{cooked}
 use Rattle.text.specs.Quotes.{literal}
-use Rattle.text.specs.Texts.{on_cooked, on_lexeme, on_literal, string_text, text_answer, too_short_answer}
+use Rattle.text.specs.Texts.{on_cooked, on_lexeme, on_literal, string_text, text_answer}
 use Rattle.lexer.specs.Runs.{Meaning}
-use Rattle.runs.specs.Coming.{ended, tell, tell_by}
-use Rattle.stream.specs.Literals.{literal_of, source_ended, with_token}
+use Rattle.runs.specs.Coming.{tell, tell_by}
+use Rattle.stream.specs.Literals.{literal_of, with_token}
 use Rattle.rules.proofs.Cases.{either}
 use Rattle.laws.specs.Laws.{Below, Comes, Fails, Leads}
-use Rattle.laws.specs.Outcomes.{Outcome, by_glance, by_literal, by_next}
+use Rattle.laws.specs.Outcomes.{by_glance, by_literal, by_next}
 
 -- what a meaning tells, taken apart
 abbrev Shows : Result (Option Token) Fault → Meaning → Type 0

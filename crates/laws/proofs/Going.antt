@@ -1,6 +1,6 @@
 -- Where calls lead: each hands out what comes first, or nothing.
 use Rattle.std.proofs.Common.{◌≡◌, ℕ, List, [], ◌∷◌, ◌++◌, length, Some, None, Ok, Err, Option, Result, sym, refl, ap, ◌∙◌, subst, append_assoc}
-use Rattle.token.specs.Told.{origin, told}
+use Rattle.token.specs.Told.{origin}
 use Rattle.token.specs.declared.fault.Fault.{Fault}
 use Rattle.token.specs.declared.place.Position.{Position}
 use Rattle.token.specs.declared.place.Token.{Token}
@@ -18,7 +18,6 @@ use Rattle.session.specs.declared.record.Session.{Session}
 use Rattle.stream.specs.Layers.{LayerMoves, LayerStays, layered}
 use Rattle.stream.specs.Literals.{Literals}
 use Rattle.stream.specs.SessionSources.{SessionMoves, SessionStays, session_means}
-use Rattle.stream.specs.Sources.{Glances, Nexts}
 use Rattle.stream.specs.declared.layer.Significant.{Significant}
 use Rattle.stream.proofs.Sifting.{leads}
 use Rattle.laws.specs.Laws.{Comes, LayerLawful, SessionLawful}

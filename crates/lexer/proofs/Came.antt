@@ -1,7 +1,6 @@
 -- What a token that is answered came from.
 use Rattle.std.proofs.Common.{◌≡◌, ℕ, Bool, true, false, cond, eqb, Some, None, Ok, Option, sym, refl, ap, subst, arith}
 use Rattle.token.specs.declared.fault.Cause.{Cause}
-use Rattle.token.specs.declared.place.Position.{Position}
 use Rattle.token.specs.declared.place.Token.{Token}
 use Rattle.rules.specs.Effects.{effect_of}
 use Rattle.rules.specs.Laws.{Fits, Sound}

@@ -1,10 +1,9 @@
 -- What a session answers, and how it goes on.
-use Rattle.std.specs.Prelude.{ℕ, Bool, true, false, cond, List, [], ◌∷◌, length, take, Some, None, Ok, Err, Option, Result, nat_le}
+use Rattle.std.specs.Prelude.{ℕ, true, false, cond, List, [], ◌∷◌, length, take, Some, None, Ok, Err, Option, Result, nat_le}
 use Rattle.token.specs.declared.fault.Cause.{Cause}
 use Rattle.token.specs.declared.fault.Cause.TheVariants as cause
 use Rattle.token.specs.declared.fault.Fault.{Fault}
 use Rattle.token.specs.declared.fault.Layer.TheVariants as layer
-use Rattle.token.specs.declared.kinds.Delimiter.{Delimiter}
 use Rattle.token.specs.declared.kinds.Delimiter.TheVariants.{FormatString}
 use Rattle.token.specs.declared.kinds.StringDelimiter.TheVariants.{QuoteDouble, QuoteSingle}
 use Rattle.token.specs.declared.kinds.StringKind.{StringKind}

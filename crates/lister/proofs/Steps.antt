@@ -1,7 +1,7 @@
 -- A listing, line by line.
-use Rattle.std.proofs.Common.{◌≡◌, ℕ, ◌+◌, ◌-◌, ◌<◌, Bool, true, false, cond, leb, List, [], ◌∷◌, ◌++◌, length, take, drop, Some, None, Ok, Err, Option, Result, sym, refl, ap, ◌∙◌, subst, arith}
+use Rattle.std.proofs.Common.{◌≡◌, ℕ, ◌+◌, ◌-◌, ◌<◌, Bool, true, false, cond, leb, List, [], ◌∷◌, ◌++◌, length, take, drop, Some, None, Ok, Err, Option, Result, sym, ap, ◌∙◌, subst, arith}
 use Rattle.std.specs.List.{flat_map}
-use Rattle.std.proofs.lemmas.List.{append_assoc, append-nil, take_at}
+use Rattle.std.proofs.lemmas.List.{append_assoc, take_at}
 use Rattle.std.proofs.lemmas.Bool.{and_from, cond-true}
 use Rattle.token.specs.Told.{Told, gave, refused, refusal}
 use Rattle.token.specs.declared.fault.Fault.{Fault}
@@ -9,7 +9,6 @@ use Rattle.token.specs.declared.place.Position.{Position}
 use Rattle.token.specs.declared.place.Token.{Token}
 use Rattle.utf8.specs.Utf8.{bound}
 use Rattle.source.specs.Admission.{admission, held_after}
-use Rattle.source.specs.Sources.{cuts, text_of}
 use Rattle.source.proofs.Walks.{walk_offset}
 use Rattle.lexer.specs.Answers.{after, answer}
 use Rattle.lexer.specs.Runs.{Meaning, onward, tokens_of}

@@ -1,6 +1,6 @@
 -- Where scans and prefixes end, a text may be cut.
-use Rattle.std.proofs.Common.{◌≡◌, ℕ, zero, suc, pred, ◌+◌, ◌-◌, ◌<◌, ◌≤◌, Bool, true, false, cond, not, ◌&&◌, ◌||◌, eqb, ltb, ◌⊎◌, List, [], ◌∷◌, ◌++◌, length, get_or, drop, IsUtf8, sym, refl, ap, ◌∙◌, subst, inl, inr, arith}
-use lib.Utf8.{encode, encodes, scalar, scalars}
+use Rattle.std.proofs.Common.{◌≡◌, ℕ, zero, suc, pred, ◌+◌, ◌-◌, ◌<◌, ◌≤◌, Bool, true, false, cond, ◌&&◌, eqb, ltb, List, [], ◌∷◌, length, get_or, drop, IsUtf8, sym, refl, ap, ◌∙◌, subst, arith}
+use lib.Utf8.{encodes, scalar, scalars}
 use Rattle.std.specs.Char.{len_utf8 as width_of}
 use Rattle.std.specs.Str.{IsCharBoundary}
 use Rattle.std.specs.List.{prefix_len}

@@ -14,8 +14,8 @@ use Rattle.rules.specs.declared.parts.Move.{Move}
 use Rattle.rules.specs.declared.parts.Move.TheVariants.{Stop, Pass}
 use Rattle.rules.specs.Lines.{has, mixed}
 use Rattle.rules.specs.Picks.{first_is}
-use Rattle.rules.specs.Scans.{character, doubled, empty, line_end, moves, opening, over_comment, over_text, scan, width}
-use Rattle.rules.specs.Strings.{leads, over_string, reach, reaches}
+use Rattle.rules.specs.Scans.{doubled, empty, line_end, moves, opening, over_comment, over_text, scan, width}
+use Rattle.rules.specs.Strings.{over_string, reach, reaches}
 use Rattle.rules.proofs.Cases.{by}
 
 pub some : (s : List ℕ) → empty s ≡ false → 0 < length s

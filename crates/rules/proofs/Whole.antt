@@ -1,11 +1,11 @@
 -- What a rule finds ends between characters.
-use Rattle.std.proofs.Common.{◌≡◌, ℕ, suc, pred, ◌+◌, ◌<◌, ◌≤◌, Bool, true, false, cond, not, ◌&&◌, ◌||◌, eqb, ltb, leb, ◌⊎◌, List, [], ◌∷◌, length, take, drop, is_some, Some, None, IsUtf8, Option, sym, refl, ap, ◌∙◌, subst, inl, inr, arith}
+use Rattle.std.proofs.Common.{◌≡◌, ℕ, suc, pred, ◌+◌, ◌<◌, ◌≤◌, Bool, true, false, cond, not, ◌&&◌, ◌||◌, eqb, ltb, leb, List, [], ◌∷◌, length, take, drop, is_some, Some, None, IsUtf8, Option, sym, refl, ap, ◌∙◌, subst, inl, inr, arith}
 use lib.Count.{count_leading_zeros}
 use Rattle.std.specs.Str.{IsCharBoundary}
 use Rattle.std.specs.List.{prefix_len}
 use Rattle.std.proofs.lemmas.List.{length-take-le}
 use Rattle.std.proofs.lemmas.List.Sums.{prefix_len-le-length}
-use Rattle.std.proofs.lemmas.Bool.{and_parts, eqb-true, eqb-false, false≢true, leb-true, ltb-true, lt-ltb, or_cases}
+use Rattle.std.proofs.lemmas.Bool.{and_parts, eqb-true, false≢true, leb-true, ltb-true, or_cases}
 use Rattle.std.proofs.lemmas.Str.{IsCharBoundary-after_ascii, IsCharBoundary-from_rest, IsCharBoundary-start, IsUtf8-drop}
 use Rattle.scan.specs.Classes.{gap}
 use Rattle.scan.specs.Prefix.{begins}
@@ -22,18 +22,17 @@ use Rattle.utf8.specs.Utf8.{shown_length}
 use Rattle.rules.specs.declared.found.Around.{Around}
 use Rattle.rules.specs.declared.found.Found.{Found}
 use Rattle.rules.specs.declared.found.Found.TheVariants.{Lexed, Fails, Unclosed}
-use Rattle.rules.specs.declared.parts.Move.TheVariants.{Stop, Pass}
 use Rattle.rules.specs.declared.parts.Reach.{Reach}
 use Rattle.rules.specs.declared.parts.Reach.TheVariants.{Closes, Pauses, Ends}
 use Rattle.rules.specs.declared.parts.Rule.{Rule}
 use Rattle.rules.specs.declared.parts.Rule.TheVariants as rule
 use Rattle.rules.specs.declared.parts.Start.{Start}
 use Rattle.rules.specs.declared.parts.Start.TheVariants.{Still, Aligned, Outward, Inward, Wrong}
-use Rattle.rules.specs.Lines.{line_of_blanks, body, deeper, finish, indentation, indented, innermost, mixed, onward, or_else, outdents, rule as rule_of, same, among, space, start, start_of, stop, told}
+use Rattle.rules.specs.Lines.{body, finish, indented, innermost, mixed, onward, or_else, outdents, rule as rule_of, same, among, start, stop, told}
 use Rattle.rules.specs.Picks.{admits, first_is}
-use Rattle.rules.specs.Scans.{character, closing, crlf, doubled, empty, lf, line_end, is_line_over, opening, over_comment, over_text, scan, width}
-use Rattle.rules.specs.Strings.{continuation, formatting, kind_of, leads, opened, over_string, quotation, reach, resumed, string_of}
-use Rattle.rules.specs.Table.{bang, brace, found_by_rule, closing as closes, colon, continuing, found_line_end, equals, escape, first_of, folded, format_of, general, letter, lookup, mark, missing, name_byte, nested, or_longer, pick, plus, shape, stray, table, twice}
+use Rattle.rules.specs.Scans.{character, closing, crlf, doubled, empty, lf, line_end, is_line_over, opening, over_comment, over_text, scan}
+use Rattle.rules.specs.Strings.{formatting, kind_of, opened, over_string, reach, resumed, string_of}
+use Rattle.rules.specs.Table.{found_by_rule, closing as closes, continuing, escape, first_of, folded, format_of, general, letter, mark, missing, name_byte, nested, or_longer, pick, shape, stray, table}
 use Rattle.rules.proofs.Cases.{by}
 use Rattle.rules.proofs.Edges.{all_low, begins_edge, character_edge, class_edge, WholeMove, WholeMoves, scan_edge}
 use Rattle.rules.proofs.Passes.{text_none}

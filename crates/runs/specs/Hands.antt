@@ -1,5 +1,5 @@
 -- Tokens handed out one after another, from one state to another.
-use Rattle.std.specs.Prelude.{◌≡◌, List, [], ◌∷◌, Some, Ok, Option}
+use Rattle.std.specs.Prelude.{◌≡◌, List, [], ◌∷◌, Some, Ok}
 use Rattle.token.specs.declared.place.Token.{Token}
 use Rattle.lexer.specs.Answers.{after, answer}
 use Rattle.lexer.specs.States.{State}

@@ -1,5 +1,5 @@
 -- What may stand where, by what is open.
-use Rattle.std.specs.Prelude.{◌≡◌, ℕ, ◌<◌, Bool, true, false, List, [], ◌∷◌, length, replicate, Some, None, Option}
+use Rattle.std.specs.Prelude.{◌≡◌, ℕ, ◌<◌, true, false, List, [], ◌∷◌, length, replicate, Some, None, Option}
 use Rattle.token.specs.declared.place.Token.{Token}
 use Rattle.scan.specs.Classes.{gap}
 use Rattle.scan.specs.Prefix.{begins}

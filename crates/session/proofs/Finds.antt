@@ -1,8 +1,7 @@
 -- What the rules find at a cursor fits what lies ahead and cuts no character.
-use Rattle.std.proofs.Common.{◌≡◌, ℕ, ◌≤◌, Bool, true, List, length, IsUtf8, sym, refl, ap, ◌∙◌, subst, arith}
+use Rattle.std.proofs.Common.{ℕ, ◌≤◌, Bool, List, length, IsUtf8, arith}
 use Rattle.std.proofs.lemmas.List.{length-drop}
 use Rattle.std.proofs.lemmas.Str.{IsUtf8-drop}
-use Rattle.utf8.specs.Utf8.{bound}
 use Rattle.utf8.proofs.Bad.{bound_boundary, boundary_bound, well_formed_text}
 use Rattle.source.specs.Cursors.{ahead as ahead_of}
 use Rattle.source.specs.Sources.{text_of}
@@ -12,7 +11,6 @@ use Rattle.rules.specs.Laws.{Fits, Sound}
 use Rattle.rules.specs.declared.found.Around.{Around}
 use Rattle.rules.specs.declared.found.Found.{Found}
 use Rattle.rules.specs.declared.found.Found.TheVariants.{Lexed, Fails, Unclosed}
-use Rattle.rules.specs.declared.parts.Change.{Change}
 use Rattle.rules.specs.declared.parts.Effect.{Effect}
 use Rattle.rules.specs.declared.parts.Effect.TheVariants.{Indents, Dedents, Texts, Ends, Other}
 use Rattle.rules.proofs.Ruled.{rules_sound}

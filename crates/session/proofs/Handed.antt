@@ -1,8 +1,7 @@
 -- A token that is answered was found, has room, and ends between characters.
-use Rattle.std.proofs.Common.{◌≡◌, ℕ, ◌+◌, ◌-◌, ◌<◌, ◌≤◌, Bool, true, false, cond, eqb, leb, List, length, Some, None, Ok, Err, Option, Result, sym, refl, ap, ◌∙◌, subst, arith}
-use Rattle.std.proofs.lemmas.Bool.{cond-true, leb-false, lt-ltb}
+use Rattle.std.proofs.Common.{◌≡◌, ℕ, ◌+◌, ◌-◌, ◌<◌, ◌≤◌, Bool, true, false, cond, eqb, leb, List, length, Some, None, Ok, refl, ap, ◌∙◌, subst, arith}
+use Rattle.std.proofs.lemmas.Bool.{leb-false, lt-ltb}
 use Rattle.token.specs.declared.fault.Cause.{Cause}
-use Rattle.token.specs.declared.fault.Fault.{Fault}
 use Rattle.token.specs.declared.place.Token.{Token}
 use Rattle.utf8.specs.Utf8.{bound}
 use Rattle.utf8.proofs.Bad.{boundary_bound}
@@ -11,8 +10,6 @@ use Rattle.stack.specs.declared.record.Stack.{Stack}
 use Rattle.token.specs.declared.place.Span.{Span}
 use Rattle.rules.specs.Effects.{effect_of}
 use Rattle.rules.specs.Laws.{Fits}
-use Rattle.rules.specs.declared.found.Found.{Found}
-use Rattle.rules.specs.declared.found.Found.TheVariants.{Lexed, Fails, Unclosed}
 use Rattle.rules.specs.declared.parts.Change.{Change}
 use Rattle.rules.specs.declared.parts.Change.TheVariants as change
 use Rattle.rules.specs.declared.parts.Effect.{Effect}
@@ -20,7 +17,7 @@ use Rattle.rules.specs.declared.parts.Effect.TheVariants.{Indents, Dedents, Text
 use Rattle.rules.proofs.Whole.{Whole, rule_whole}
 use Rattle.lexer.specs.Answers.{answer, full, full_by, lacks}
 use Rattle.lexer.proofs.Came.{came, fitting}
-use Rattle.lexer.specs.States.{State, ahead, around, found, level_texts}
+use Rattle.lexer.specs.States.{ahead, around, found, level_texts}
 use Rattle.session.specs.Able.{Able, Deep, Open}
 use Rattle.session.specs.Sessions.{state_of}
 use Rattle.session.specs.declared.record.Session.{Session}

@@ -1,8 +1,7 @@
 -- Passing whole characters.
-use Rattle.std.proofs.Common.{◌≡◌, ℕ, zero, suc, ◌+◌, ◌-◌, ◌<◌, ◌≤◌, Bool, true, false, leb, List, [], ◌∷◌, ◌++◌, length, take, drop, IsUtf8, sym, refl, ap, ◌∙◌, subst, arith}
-use lib.Utf8.{encode, encodes, scalar, scalars}
-use Rattle.std.specs.Str.{IsCharBoundary}
-use Rattle.std.proofs.lemmas.List.{append_assoc, drop-drop, length-append, length-drop, length-take-le, take-append-drop}
+use Rattle.std.proofs.Common.{◌≡◌, ℕ, zero, suc, ◌+◌, ◌-◌, ◌<◌, ◌≤◌, true, leb, List, [], ◌∷◌, ◌++◌, length, take, drop, IsUtf8, sym, refl, ap, ◌∙◌, subst, arith}
+use lib.Utf8.{encode}
+use Rattle.std.proofs.lemmas.List.{append_assoc, length-append, length-drop, length-take-le, take-append-drop}
 use Rattle.std.proofs.lemmas.Bool.{and_parts, leb-true}
 use Rattle.std.proofs.lemmas.Str.{IsCharBoundary-from_rest, IsCharBoundary-from_take, IsUtf8-between, IsUtf8-drop}
 use Rattle.token.specs.declared.place.Position.{Position}
@@ -13,7 +12,7 @@ use Rattle.source.specs.Cursors.{ahead}
 use Rattle.source.specs.Places.{walk}
 use Rattle.source.specs.Sources.{text_of}
 use Rattle.source.specs.declared.cursor.Cursor.{Cursor}
-use Rattle.source.proofs.Passes.{First, first_of, first_length}
+use Rattle.source.proofs.Passes.{first_of}
 use Rattle.source.proofs.Walks.{ahead_behind, character_ahead, step_length, walk_add, walk_offset}
 
 -- what a bound says

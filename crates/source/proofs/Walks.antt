@@ -9,7 +9,6 @@ use Rattle.source.specs.Cursors.{ahead}
 use Rattle.source.specs.Places.{breaks, past, walk, none}
 use Rattle.source.specs.Sources.{text_of}
 use Rattle.source.specs.declared.cursor.Cursor.{Cursor}
-use Rattle.source.specs.declared.record.Source.{Source}
 use Rattle.source.proofs.Passes.{stepped}
 
 past_offset : (b : Bool) (p : Position) → (past b p).offset ≡ p.offset + 1

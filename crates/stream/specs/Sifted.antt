@@ -1,7 +1,6 @@
 -- Tokens without Whitespace.
 use Rattle.std.specs.Prelude.{◌≡◌, Bool, true, cond, List, [], ◌∷◌, Some, Ok}
 use Rattle.token.specs.Ordinals.{same_kind}
-use Rattle.token.specs.declared.kinds.TokenKind.{TokenKind}
 use Rattle.token.specs.declared.kinds.TokenKind.TheVariants as kind
 use Rattle.token.specs.declared.place.Token.{Token}
 use Rattle.lexer.specs.Runs.{Meaning}

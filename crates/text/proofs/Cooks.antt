@@ -1,17 +1,16 @@
 -- Piece by piece, to the end of the text.
-use Rattle.std.proofs.Common.{◌≡◌, ℕ, ◌+◌, Bool, true, false, cond, leb, List, [], ◌∷◌, ◌++◌, length, Ok, Err, IsUtf8, Result, sym, refl, ap, ◌∙◌, subst, arith}
-use lib.Utf8.{encodes}
+use Rattle.std.proofs.Common.{◌≡◌, ℕ, ◌+◌, Bool, true, false, cond, leb, List, [], ◌∷◌, ◌++◌, length, Ok, Err, IsUtf8, Result, sym, refl, ap, ◌∙◌, arith}
 use Rattle.std.specs.List.{flat_map}
 use Rattle.std.specs.Str.{chars}
 use Rattle.std.proofs.lemmas.Bool.{false≢true}
 use Rattle.std.proofs.lemmas.Str.{chars-append, chars-nil, encodes-chars}
-use Rattle.unescape.specs.Escapes.{Fed, close, ended, feed, sealed, unescaped}
+use Rattle.unescape.specs.Escapes.{Fed, close, ended, feed, sealed}
 use Rattle.unescape.specs.declared.record.Escape.{Escape}
 use Rattle.unescape.specs.declared.record.State.{State}
 use Rattle.unescape.specs.declared.record.State.TheVariants.{Raw, Initial}
 use Rattle.unescape.proofs.Feeds.{feed_raw}
 use Rattle.text.specs.Cooked.{cooked_by}
-use Rattle.text.specs.Fedby.{bytes_of, fits, fitting, from_ok, sized, state_after, summed}
+use Rattle.text.specs.Fedby.{bytes_of, fits, fitting, from_ok, sized, summed}
 use Rattle.text.proofs.Turns.{summed_behind, summed_stop}
 
 abbrev pub laid : List (List ℕ) → List ℕ

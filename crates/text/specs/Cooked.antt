@@ -1,5 +1,5 @@
 -- What a string literal stands for.
-use Rattle.std.specs.Prelude.{ℕ, Bool, cond, List, Ok, Err, Result}
+use Rattle.std.specs.Prelude.{ℕ, Bool, cond, List, Ok, Result}
 use Rattle.token.specs.Strings.{escapes_in}
 use Rattle.token.specs.declared.kinds.StringKind.{StringKind}
 use Rattle.unescape.specs.Escapes.{unescaped}

@@ -1,10 +1,10 @@
 -- The common indentation is the longest.
-use Rattle.std.proofs.Common.{◌≡◌, ℕ, suc, ◌+◌, ◌≤◌, Bool, true, false, cond, ◌&&◌, ◌||◌, eqb, ◌⊎◌, List, [], ◌∷◌, ◌++◌, length, take, drop, Some, None, Option, sym, refl, ap, ◌∙◌, subst, inl, inr, arith}
+use Rattle.std.proofs.Common.{◌≡◌, ℕ, suc, ◌+◌, ◌≤◌, Bool, true, false, cond, eqb, ◌⊎◌, List, [], ◌∷◌, ◌++◌, length, take, drop, Some, None, Option, sym, refl, ap, ◌∙◌, subst, inl, inr, arith}
 use Rattle.std.specs.List.{common_prefix_len, prefix_len}
 use Rattle.std.proofs.lemmas.List.{append_assoc, append-nil, length-append, take-append-drop}
 use Rattle.std.proofs.lemmas.Bool.{and_parts, and_from, both_ways, eq-eqb, eqb-true}
 use Rattle.scan.specs.Classes.{gap}
-use Rattle.unindent.specs.Lines.{blank, indent, meet, met, shares, or_none, shared_from, indentation}
+use Rattle.unindent.specs.Lines.{blank, indent, meet, met, shares, shared_from, indentation}
 use Rattle.text_laws.specs.Laws.{Begins, EachWritten, SomeWritten, all, IndentationIsLongest}
 
 trans : (u v w : List ℕ) → Begins u v → Begins v w → Begins u w

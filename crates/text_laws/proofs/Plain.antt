@@ -1,14 +1,14 @@
 -- A text without backslashes is its own unescaping.
-use Rattle.std.proofs.Common.{◌≡◌, ℕ, Bool, true, false, cond, not, ◌&&◌, eqb, List, [], ◌∷◌, ◌++◌, Ok, IsUtf8, sym, refl, ap, ◌∙◌, subst, arith}
-use lib.Utf8.{encode, encodes, scalars}
+use Rattle.std.proofs.Common.{◌≡◌, ℕ, Bool, true, false, not, eqb, List, [], ◌∷◌, ◌++◌, Ok, sym, refl, ap, ◌∙◌, subst, arith}
+use lib.Utf8.{encode, encodes}
 use Rattle.std.specs.Str.{chars}
-use Rattle.std.proofs.lemmas.Bool.{and_parts, and_from, cond-false, eqb-true, false≢true, not-true}
-use Rattle.std.proofs.lemmas.Str.{chars-encodes, encode_ascii, encodes-chars}
+use Rattle.std.proofs.lemmas.Bool.{and_parts, cond-false, eqb-true, false≢true}
+use Rattle.std.proofs.lemmas.Str.{encode_ascii, encodes-chars}
 use Rattle.utf8.specs.Utf8.{well_formed}
 use Rattle.utf8.proofs.Bad.{well_formed_text}
-use Rattle.unescape.specs.Escapes.{Fed, before, close, feed, gives, goes, onward, unescaped}
+use Rattle.unescape.specs.Escapes.{before, close, feed, gives, goes, onward, unescaped}
 use Rattle.unescape.specs.declared.record.State.TheVariants.{Initial, Backslash}
-use Rattle.text_laws.specs.Laws.{all, plain}
+use Rattle.text_laws.specs.Laws.{plain}
 
 -- the bytes behind others
 rest_plain : (xs ys : List ℕ) → plain (xs ++ ys) ≡ true → plain ys ≡ true

@@ -1,9 +1,9 @@
 -- The common indentation fits every line that is not blank.
-use Rattle.std.proofs.Common.{◌≡◌, ℕ, ◌<◌, ◌≤◌, Bool, true, false, cond, ◌&&◌, ◌||◌, eqb, leb, List, [], ◌∷◌, length, take, drop, Some, None, Option, sym, refl, ap, ◌∙◌, subst, arith}
+use Rattle.std.proofs.Common.{◌≡◌, ℕ, ◌<◌, ◌≤◌, Bool, true, false, cond, ◌||◌, eqb, leb, List, [], ◌∷◌, length, take, drop, Some, None, Option, sym, refl, ap, ◌∙◌, arith}
 use Rattle.std.specs.List.{common_prefix_len, prefix_len}
 use Rattle.std.proofs.lemmas.List.{length-take-le}
 use Rattle.std.proofs.lemmas.List.Sums.{common_prefix_len-le, prefix_len-le-length}
-use Rattle.std.proofs.lemmas.Bool.{and_from, le-leb, or_left, or_right}
+use Rattle.std.proofs.lemmas.Bool.{and_from, le-leb, or_right}
 use Rattle.scan.specs.Classes.{gap}
 use Rattle.unindent.specs.Lines.{blank, indent, meet, met, shares, shared_from, indentation, roomy, all_roomy, or_none, lines}
 use Rattle.unindent.specs.Cuts.{first_line_length}

@@ -1,5 +1,5 @@
 -- What pieces a text still has to give.
-use Rattle.std.specs.Prelude.{ℕ, Bool, true, false, cond, List, [], ◌∷◌}
+use Rattle.std.specs.Prelude.{ℕ, cond, List, [], ◌∷◌}
 use Rattle.unindent.specs.Lines.{lines, pieces}
 use Rattle.unindent.specs.declared.record.Pieces.{Pieces}
 

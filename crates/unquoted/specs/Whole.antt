@@ -1,10 +1,10 @@
 -- A text taken as one string literal.
-use Rattle.std.specs.Prelude.{cond, List, ℕ, length}
+use Rattle.std.specs.Prelude.{List, ℕ, length}
 use Rattle.token.specs.Told.{Told, gave, refused, origin}
 use Rattle.token.specs.declared.kinds.TokenKind.TheVariants as kind
 use Rattle.token.specs.declared.place.Token.{Token}
 use Rattle.source.specs.Admission.{admission}
-use Rattle.text.specs.Texts.{string_text, text_answer, text_buffer}
+use Rattle.text.specs.Texts.{string_text}
 
 -- the token that has the whole text for its lexeme
 abbrev pub whole_token : List ℕ → Token

@@ -1,6 +1,5 @@
-use Rattle.std.proofs.Common.{ℕ, ◌+◌, ◌^◌, ◌≤◌, List, [], ◌∷◌, length, decimal, sym, ap, subst, arith}
+use Rattle.std.proofs.Common.{length, ap, arith}
 use Rattle.std.proofs.lemmas.Fmt.{decimal_digit, decimal_step, length-decimal-le}
-use Rattle.listing.specs.Laying.{Lays}
 use Rattle.listing.proofs.Laid.{lays_then}
 use Rattle.listing.proofs.laying.+number.Goals as goal
 

@@ -1,4 +1,4 @@
-use Rattle.std.proofs.Common.{List, take}
+use Rattle.std.proofs.Common.{take}
 use Rattle.listing.specs.Laying.{Lays}
 use Rattle.listing.proofs.laying.put.Given as goal
 

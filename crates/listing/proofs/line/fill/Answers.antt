@@ -1,6 +1,6 @@
 use Rattle.std.proofs.Common.{◌≡◌, ℕ, ◌≤◌, List, length, sym, ap, ◌∙◌, arith}
 use Rattle.std.proofs.lemmas.Bool.{cond-true, le-leb}
-use Rattle.token.specs.Told.{gave, told}
+use Rattle.token.specs.Told.{gave}
 use Rattle.listing.specs.Laying.{Lays}
 use Rattle.listing.specs.Lines.{line_answer, line_buffer, line_of}
 use Rattle.listing.specs.declared.entry.Entry.{Entry}

@@ -1,4 +1,4 @@
-use Rattle.std.proofs.Common.{◌≡◌, ℕ, List, [], ◌∷◌, ◌++◌, codes, decimal, ap, arith}
+use Rattle.std.proofs.Common.{◌≡◌, ℕ, List, ◌++◌, codes, decimal, ap, arith}
 use Rattle.std.proofs.lemmas.List.{append_assoc}
 use Rattle.token.specs.Causes.{number_of}
 use Rattle.listing.specs.Lines.{ended, field}

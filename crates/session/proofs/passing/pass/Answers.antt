@@ -1,4 +1,4 @@
-use Rattle.std.proofs.Common.{◌≡◌, ◌+◌, ◌<◌, sym, ap, ◌∙◌, subst, arith}
+use Rattle.std.proofs.Common.{◌+◌, sym, ap, subst, arith}
 use Rattle.token.specs.declared.place.Position.{Position}
 use Rattle.std.proofs.lemmas.List.{length-drop}
 use Rattle.source.specs.Cursors.{ahead}

@@ -1,4 +1,4 @@
-use Rattle.std.proofs.Common.{◌≡◌, ◌-◌, length}
+use Rattle.std.proofs.Common.{length}
 use Rattle.source.specs.Cursors.{ahead}
 use Rattle.session.proofs.Ways.{Onward}
 use Rattle.session.proofs.passing.pass.Given as goal

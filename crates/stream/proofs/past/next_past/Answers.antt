@@ -1,4 +1,4 @@
-use Rattle.std.proofs.Common.{◌≡◌, Some, Ok, sym, subst}
+use Rattle.std.proofs.Common.{Some, Ok, sym, subst}
 use Rattle.stream.specs.Sources.{Nexts}
 use Rattle.stream.proofs.Sifting.{going_here, going_passes, past}
 use Rattle.stream.proofs.past.next_past.Goals as goal

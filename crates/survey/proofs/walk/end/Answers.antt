@@ -1,4 +1,4 @@
-use Rattle.std.proofs.Common.{◌≡◌, length, sym, ap, ◌∙◌, arith}
+use Rattle.std.proofs.Common.{length, sym, ap, ◌∙◌, arith}
 use Rattle.token.specs.declared.place.Position.{Position}
 use Rattle.utf8.specs.Utf8.{character}
 use Rattle.source.specs.Cursors.{ahead}

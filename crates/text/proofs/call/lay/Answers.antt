@@ -1,5 +1,5 @@
 use Rattle.std.proofs.Common.{◌≡◌, ℕ, length, sym, ap, ◌∙◌}
-use Rattle.token.specs.Told.{Told, Refusal, refused, refusal}
+use Rattle.token.specs.Told.{Refusal, refused, refusal}
 use Rattle.token.specs.declared.fault.Layer.TheVariants as layer
 use Rattle.token.specs.declared.place.Token.{Token}
 use Rattle.text.specs.Cooked.{cooked}

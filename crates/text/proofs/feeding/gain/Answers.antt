@@ -1,4 +1,4 @@
-use Rattle.std.proofs.Common.{◌≡◌, Ok, sym, ap, ◌∙◌, arith}
+use Rattle.std.proofs.Common.{Ok, sym, ap, ◌∙◌, arith}
 use Rattle.text.proofs.Turns.{stepped_ok, stepped_err, width_of}
 use Rattle.text.proofs.feeding.gain.Goals as goal
 

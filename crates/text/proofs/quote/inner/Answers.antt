@@ -1,4 +1,4 @@
-use Rattle.std.proofs.Common.{◌≡◌, ◌-◌, ◌≤◌, length, IsUtf8, sym, ap, ◌∙◌, subst, arith}
+use Rattle.std.proofs.Common.{◌≡◌, ◌-◌, length, IsUtf8, sym, ap, subst, arith}
 use Rattle.std.specs.Str.{IsCharBoundary}
 use Rattle.token.specs.Strings.{delimiter_of}
 use Rattle.text.proofs.Seams.{twice, start_seam, end_seam}

@@ -1,4 +1,4 @@
-use Rattle.std.proofs.Common.{◌≡◌, ◌≤◌, length, Some, sym, ap, ◌∙◌, subst}
+use Rattle.std.proofs.Common.{◌≤◌, length, Some, sym, ap, ◌∙◌, subst}
 use Rattle.token.specs.Strings.{delimiter_of}
 use Rattle.text.specs.Quotes.{closed_by, first_of, quotes}
 use Rattle.text.proofs.Seams.{no_quote, quoted, not_closed, stripped_short}

@@ -1,4 +1,4 @@
-use Rattle.std.proofs.Common.{◌≡◌, length, take, drop, sym, ap, ◌∙◌}
+use Rattle.std.proofs.Common.{length, take, drop, sym, ap, ◌∙◌}
 use Rattle.std.proofs.lemmas.Bool.{eqb-true}
 use Rattle.unindent.proofs.Shared.{share_more, share_end}
 use Rattle.unindent.proofs.Turns.{not_empty}

@@ -1,4 +1,4 @@
-use Rattle.std.proofs.Common.{◌≡◌, IsUtf8, sym, ap, ◌∙◌, subst}
+use Rattle.std.proofs.Common.{IsUtf8, ap, ◌∙◌, subst}
 use Rattle.unindent.specs.Lines.{blank}
 use Rattle.unindent.proofs.Split.{gap_bound}
 use Rattle.unindent.proofs.Turns.{room_there}

@@ -1,6 +1,5 @@
-use Rattle.std.proofs.Common.{◌≡◌, length, ap, ◌∙◌, arith}
+use Rattle.std.proofs.Common.{length, ap, ◌∙◌, arith}
 use Rattle.std.proofs.lemmas.Bool.{cond-true}
-use Rattle.stack.specs.Held.{stacked}
 use Rattle.session.proofs.record.Session.indents.Goals as goal
 
 pub invariant_of-self : goal.invariant_of-self

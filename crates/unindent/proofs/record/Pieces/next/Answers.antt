@@ -1,4 +1,4 @@
-use Rattle.std.proofs.Common.{◌≡◌, ◌∷◌, sym, ap, ◌∙◌, arith}
+use Rattle.std.proofs.Common.{◌∷◌, sym, ap, ◌∙◌, arith}
 use Rattle.std.proofs.lemmas.Bool.{cond-true}
 use Rattle.unindent.proofs.Turns.{not_empty, line_room, after_room, next_piece}
 use Rattle.unindent.proofs.record.Pieces.next.Goals as goal
