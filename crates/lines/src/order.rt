@@ -3,7 +3,6 @@ ghost use Rattle.rules.specs.Laws.{Sound};
 ghost use Rattle.rules.specs.Lines.{body as body_of, finish as finish_of, onward as onward_of, rule as rule_of, space as space_of, stop as stop_of, told as told_of};
 ghost use Rattle.lines.specs.Levels.{texts_of};
 
-use crate::ahead::Ahead;
 use crate::levels::Levels;
 use crate::starts::start;
 use rules::{Around, Found, Start};
@@ -23,7 +22,7 @@ fn space(n: usize) -> Option<Found>
 }
 
 // What the start of a line hands out.
-fn told(start: Start) -> Option<Found>
+pub(crate) fn told(start: Start) -> Option<Found>
     ensures { result ≡ told_of start }
 {
     match start {
@@ -73,7 +72,7 @@ fn body(ahead: &[u8]) -> Found
 }
 
 // What comes where no line starts, or where its start hands out nothing.
-fn onward(around: Around, levels: Levels, ahead: &[u8]) -> Found
+pub(crate) fn onward(around: Around, levels: Levels, ahead: &[u8]) -> Found
     ensures { result ≡ onward_of around (texts_of levels.entry) ahead.now }
 {
     if ahead.is_empty() {
@@ -88,34 +87,21 @@ fn onward(around: Around, levels: Levels, ahead: &[u8]) -> Found
 }
 
 // What is found: at column 0 the start of a line is tried first.
-fn tried(fresh: bool, around: Around, levels: Levels, ahead: Ahead) -> Found
-    ensures { result ≡ rule_of fresh around (texts_of levels.entry) ahead.entry.bytes.now }
+fn tried(fresh: bool, around: Around, levels: Levels, ahead: &[u8]) -> Found
+    ensures { result ≡ rule_of fresh around (texts_of levels.entry) ahead.now }
 {
     if fresh {
         if let Some(found) = told(start(around, levels, ahead)) {
             return found;
         }
     }
-    onward(around, levels, ahead.bytes)
+    onward(around, levels, ahead)
 }
 
 // What the rules find, which keeps their law.
 pub fn rule(fresh: bool, around: Around, levels: Levels, ahead: &[u8]) -> Found
     ensures is { result ≡ rule_of fresh around (texts_of levels.entry) ahead.now }
     ensures sound { Sound fresh around (texts_of levels.entry) ahead.now result }
-{
-    let ahead = Ahead {
-        bytes: ahead,
-        known: 0,
-        outdents: false,
-    };
-    rule_from(fresh, around, levels, ahead)
-}
-
-// The same, where something is known of the blank-line scan.
-pub fn rule_from(fresh: bool, around: Around, levels: Levels, ahead: Ahead) -> Found
-    ensures is { result ≡ rule_of fresh around (texts_of levels.entry) ahead.entry.bytes.now }
-    ensures sound { Sound fresh around (texts_of levels.entry) ahead.entry.bytes.now result }
 {
     tried(fresh, around, levels, ahead)
 }

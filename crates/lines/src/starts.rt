@@ -3,25 +3,24 @@ ghost use Rattle.rules.specs.Lines.{line_of_blanks, deeper as deeper_of, indenta
 ghost use Rattle.rules.specs.Scans.{is_line_over};
 ghost use Rattle.lines.specs.Levels.{texts_of};
 
-use crate::ahead::Ahead;
 use crate::levels::Levels;
-use crate::reads::{mixed, same};
+use crate::reads::{mixed, outdents, same};
 use rules::{Around, Layout, Start};
 use scan::{Gap, leading, starts};
 use table::{at_line_end, nested};
 
 // Whether a line end comes first, or nothing does.
-fn line_over(ahead: &[u8]) -> bool
+pub(crate) fn line_over(ahead: &[u8]) -> bool
     ensures { result ≡ is_line_over ahead.now }
 {
     at_line_end(ahead) || ahead.is_empty()
 }
 
 // A line of blanks.
-fn blank_line(levels: Levels, n: usize, ahead: Ahead) -> Start
-    ensures { result ≡ line_of_blanks (texts_of levels.entry) n ahead.entry.bytes.now }
+fn blank_line(levels: Levels, n: usize, ahead: &[u8]) -> Start
+    ensures { result ≡ line_of_blanks (texts_of levels.entry) n ahead.now }
 {
-    if levels.indented() && ahead.leads_outward() {
+    if levels.indented() && outdents(ahead) {
         Start::Outward
     } else {
         Start::Still(n)
@@ -54,7 +53,7 @@ fn deeper(body: bool, innermost: &[u8], n: usize, run: &[u8]) -> Start
 }
 
 // A run of `n` blanks before something else.
-fn indentation(body: bool, levels: Levels, n: usize, run: &[u8]) -> Start
+pub(crate) fn indentation(body: bool, levels: Levels, n: usize, run: &[u8]) -> Start
     ensures { result ≡ indentation_of body (texts_of levels.entry) n run.now }
 {
     if same(run, levels.innermost()) {
@@ -67,11 +66,11 @@ fn indentation(body: bool, levels: Levels, n: usize, run: &[u8]) -> Start
 }
 
 // Which rule holds where a line starts.
-pub(crate) fn start(around: Around, levels: Levels, ahead: Ahead) -> Start
-    ensures { result ≡ start_at around (texts_of levels.entry) ahead.entry.bytes.now }
+pub(crate) fn start(around: Around, levels: Levels, ahead: &[u8]) -> Start
+    ensures { result ≡ start_at around (texts_of levels.entry) ahead.now }
 {
-    let n = leading::<Gap>(ahead.bytes);
-    let (run, behind) = ahead.bytes.split_at(n);
+    let n = leading::<Gap>(ahead);
+    let (run, behind) = ahead.split_at(n);
     if nested(around) {
         Start::Still(n)
     } else if line_over(behind) {

@@ -3,7 +3,7 @@ use Rattle.rules.specs.Laws.{Sound}
 use Rattle.rules.specs.declared.found.Found.{Found}
 use Rattle.rules.proofs.Ruled.{rules_sound}
 use Rattle.lines.specs.Levels.{texts_of}
-use Rattle.lines.proofs.order.rule_from.Goals as goal
+use Rattle.lines.proofs.remembered.rule_from.Goals as goal
 
 pub returns : goal.returns
 returns c =
