@@ -1,4 +1,4 @@
-ghost use Rattle.std.specs.Prelude.{◌≡◌, ◌<◌, ◌≤◌, [], ◌∷◌, length, take, set as put_at, if◌then◌else◌, nat_le, slice_index_or};
+ghost use Rattle.std.specs.Prelude.{◌≡◌, ◌<◌, ◌≤◌, [], ◌∷◌, length, take, set as put_at, if◌then◌else◌, nat_le, slice_index_or, Ok, Err};
 ghost use Rattle.stack.specs.Held.{held, stacked, room as room_of, fits, first, behind, at as entry_at};
 
 use crate::record::Stack;
@@ -80,9 +80,9 @@ impl<'t, T: Copy + Drop> Stack<'t, T> {
         self.slots.len() <= self.len()
     }
 
-    // One entry more; false, and nothing changed, where the table is full.
-    pub fn push(&mut self, x: T) -> bool
-        ensures answer { result ≡ fits self.old }
+    // One entry more; where the table is full the element comes back, and nothing has changed.
+    pub fn push(&mut self, x: T) -> Result<(), T>
+        ensures answer { result ≡ (if fits self.old then Ok tt else Err x) }
         ensures holds { stacked self.new ≡ (if fits self.old then x ∷ stacked self.old else stacked self.old) }
         ensures rooms { room_of self.new ≡ room_of self.old }
     {
@@ -90,9 +90,9 @@ impl<'t, T: Copy + Drop> Stack<'t, T> {
         if n < self.slots.len() {
             store(self.slots, n, x);
             self.count = n + 1;
-            true
+            Ok(())
         } else {
-            false
+            Err(x)
         }
     }
 

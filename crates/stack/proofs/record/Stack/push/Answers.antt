@@ -11,7 +11,7 @@ returns-then-n-self g c =
     let xs = c.args.self.now.slots.now in
     let f : fits c.args.self.now ≡ true = lt-ltb _ _ (omega (arith, length-reverse (take k xs))) in
     record {
-      answer = sym f;
+      answer = sym (cond-true _ _ _ f);
       holds = push_more k xs _ c.args.x _ c.len-n.ensures c.if-n-self.true c.store.ensures ∙ sym (cond-true _ _ _ f);
       rooms = ap length c.store.ensures ∙ length-set _ _ _;
     }
@@ -21,4 +21,4 @@ returns-else-n-self g c =
     let k = c.args.self.now.count in
     let xs = c.args.self.now.slots.now in
     let f : fits c.args.self.now ≡ false = le-ltb _ _ (omega (arith, length-reverse (take k xs))) in
-    record { answer = sym f; holds = sym (cond-false _ _ _ f); rooms = refl }
+    record { answer = sym (cond-false _ _ _ f); holds = sym (cond-false _ _ _ f); rooms = refl }
