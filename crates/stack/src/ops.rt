@@ -3,14 +3,6 @@ ghost use Rattle.stack.specs.Held.{held, stacked, room as room_of, fits, first, 
 
 use crate::record::Stack;
 
-// The element at a place of a table.
-fn item<T: Copy>(slots: &[T], i: usize) -> T
-    requires { i < length slots.now }
-    ensures { result ≡ slice_index_or slots.now i result }
-{
-    slots[i]
-}
-
 // The first elements of a table.
 fn front<T: Copy>(slots: &[T], n: usize) -> &[T]
     requires { n ≤ length slots.now }
@@ -47,11 +39,7 @@ impl<'t, T: Copy + Drop> Stack<'t, T> {
     pub fn get(&self, i: usize) -> Option<T>
         ensures { result ≡ entry_at (held self.now) i }
     {
-        if i < self.len() {
-            Some(item(self.slots, i))
-        } else {
-            None
-        }
+        self.entries().get(i).copied()
     }
 
     // All entries, the oldest first.
@@ -65,12 +53,7 @@ impl<'t, T: Copy + Drop> Stack<'t, T> {
     pub fn top(&self) -> Option<T>
         ensures { result ≡ first (stacked self.now) }
     {
-        let n = self.len();
-        if n > 0 {
-            Some(item(self.slots, n - 1))
-        } else {
-            None
-        }
+        self.entries().last().copied()
     }
 
     // Whether no entry more fits.
