@@ -53,10 +53,7 @@ fn share<'a>(shared: Option<&'a [u8]>, line: &'a [u8]) -> Option<&'a [u8]>
         return shared;
     }
     let run = indent(line);
-    match shared {
-        None => Some(run),
-        Some(v) => Some(meet(v, run)),
-    }
+    Some(shared.map_or(run, |v| meet(v, run)))
 }
 
 // How long the common indentation of a text is.
@@ -70,15 +67,5 @@ pub(crate) fn indentation(text: &[u8]) -> usize
         shared = share(shared, line);
         rest = after;
     }
-    run_length(shared)
-}
-
-// How long a run is, if there is one.
-fn run_length(run: Option<&[u8]>) -> usize
-    ensures { result ≡ length (or_none (option_map (λ x. x.now) run.entry)) }
-{
-    match run {
-        None => 0,
-        Some(run) => run.len(),
-    }
+    shared.map_or(0, |run| run.len())
 }

@@ -1,4 +1,6 @@
-use Rattle.std.proofs.Common.{length, take, drop, sym, ap, ◌∙◌}
+use Rattle.std.proofs.Common.{◌≡◌, length, take, drop, sym, ap, ◌∙◌, rules}
+use Rattle.std.specs.Option.{option_map}
+use Rattle.unindent.specs.Lines.{or_none}
 use Rattle.std.proofs.lemmas.Bool.{eqb-true}
 use Rattle.unindent.proofs.Shared.{share_more, share_end}
 use Rattle.unindent.proofs.Turns.{not_empty}
@@ -14,4 +16,5 @@ loop-rest-preserved c =
 
 pub returns : goal.returns
 returns c =
-    c.run_length.ensures ∙ ap length (share_end _ c.loop-rest.rest.now (eqb-true _ 0 (sym c.loop-rest-test.ensures)) ∙ c.loop-rest.invariant)
+    let e : c.map_or.result ≡ length (or_none (option_map (λ r. r.now) c.loop-rest.shared)) = search rules in
+    e ∙ ap length (share_end _ c.loop-rest.rest.now (eqb-true _ 0 (sym c.loop-rest-test.ensures)) ∙ c.loop-rest.invariant)
