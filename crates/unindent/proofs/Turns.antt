@@ -1,9 +1,10 @@
 -- One line after the other.
-use Rattle.std.proofs.Common.{◌≡◌, ℕ, zero, suc, ◌<◌, ◌≤◌, Bool, true, false, cond, ◌||◌, eqb, leb, ◌⊎◌, List, [], ◌∷◌, ◌++◌, length, take, drop, Some, None, IsUtf8, Option, sym, refl, ap, ◌∙◌, subst, inl, inr, arith}
+use Rattle.std.proofs.Common.{◌≡◌, ℕ, zero, suc, ◌<◌, ◌≤◌, Bool, true, false, cond, ◌||◌, eqb, List, [], ◌∷◌, ◌++◌, length, take, drop, Some, None, IsUtf8, Option, sym, refl, ap, ◌∙◌, subst, arith}
 use lib.Utf8.{encodes}
 use Rattle.std.specs.List.{flat_map, prefix_len}
 use Rattle.std.proofs.lemmas.List.{append-nil, length-drop}
-use Rattle.std.proofs.lemmas.Bool.{and_parts, or_cases, both_ways, leb-true, ne_eqb, false≢true}
+use Rattle.std.proofs.lemmas.Bool.{and_parts, ne_eqb}
+use Rattle.std.proofs.lemmas.Bool.Decides.{nat_tests}
 use Rattle.std.proofs.lemmas.Str.{encode_ascii, IsUtf8-append, IsUtf8-drop, IsUtf8-nil, IsUtf8-take}
 use Rattle.scan.specs.Classes.{gap}
 use Rattle.unindent.specs.Cuts.{first_line_length}
@@ -14,16 +15,11 @@ use Rattle.unindent.proofs.Shared.{all_room}
 use Rattle.unindent.proofs.Split.{first_line, cut_bound, gap_bound, length_some}
 
 pub not_empty : (n : ℕ) → false ≡ eqb n 0 → 0 < n
-not_empty zero e = absurd (false≢true e)
-not_empty (suc n) e = omega arith
+not_empty n e = grind (arith, nat_tests)
 
 -- a line that is not blank has the room
 pub room_there : (n : ℕ) (l : List ℕ) → roomy n l ≡ true → false ≡ blank l → n ≤ prefix_len gap l
-room_there n l h b = by (or_cases (blank l) (leb n (prefix_len gap l)) h)
-  where
-    by : (blank l ≡ true) ⊎ (leb n (prefix_len gap l) ≡ true) → n ≤ prefix_len gap l
-    by (inl e) = absurd (both_ways (blank l) (sym b) e)
-    by (inr e) = leb-true n (prefix_len gap l) e
+room_there n l h b = grind (arith, nat_tests)
 
 no_lines : (bs : List ℕ) → none (lines bs) ≡ eqb (length bs) 0
 no_lines [] = refl
@@ -90,7 +86,7 @@ texts (suc k) first n (b ∷ bs) l u r =
     let line : List ℕ = take m all in
     let after : List ℕ = drop m all in
     let h : 0 < length all = omega arith in
-    let c = cut_bound all u h in
+    let c = cut_bound all u in
     let next = next_piece n all line after h refl refl first (eqb (length after) 0) (piece first (eqb (length after) 0) n line) refl refl in
     let shorter : length after ≤ k = omega (arith, length-drop m all, length_some all h) in
     subst (λ ps. IsUtf8 (flat_map (λ p. p) ps)) (sym next)

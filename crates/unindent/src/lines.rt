@@ -8,13 +8,13 @@ ghost use Rattle.unindent.specs.Cuts.{first_line_length};
 use scan::{Gap, InLine, White, common, leading};
 
 // How long the first line is, with its line feed.
+#[tactic(auto, using(crate::proofs::Split::first_length))]
 pub(crate) fn line_length(bytes: &[u8]) -> usize
     ensures is { result ≡ first_line_length bytes.now }
     ensures within { result ≤ length bytes.now }
     ensures some { 0 < length bytes.now → 0 < result }
 {
-    let n = leading::<InLine>(bytes);
-    if n < bytes.len() { n + 1 } else { n }
+    bytes.len().min(leading::<InLine>(bytes) + 1)
 }
 
 // Whether a line holds nothing but white space.
@@ -61,11 +61,8 @@ pub(crate) fn indentation(text: &[u8]) -> usize
     ensures { result ≡ length (indentation_of (lines_of text.now)) }
 {
     let mut shared: Option<&[u8]> = None;
-    let mut rest = text;
-    while !rest.is_empty() {
-        let (line, after) = rest.split_at(line_length(rest));
+    for line in text.split_inclusive(|b| *b == b'\n') {
         shared = share(shared, line);
-        rest = after;
     }
     shared.map_or(0, |run| run.len())
 }
