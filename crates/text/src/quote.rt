@@ -3,6 +3,7 @@ ghost use Rattle.scan.specs.Prefix.{begins};
 ghost use Rattle.token.specs.Strings.{delimiter_of};
 ghost use Rattle.text.specs.Quotes.{closed_by, first_of, literal as literal_of, one as one_of, quotes, stripped, three as three_of};
 
+use crate::literal::Literal;
 use scan::starts;
 use token::{StringDelimiter, StringKind};
 
@@ -72,19 +73,19 @@ fn inner(lexeme: &str, kind: StringKind) -> &str
     &lexeme[n..end]
 }
 
-// A literal's kind and what stands between its delimiters.
-pub(crate) fn literal(lexeme: &str) -> Option<(StringKind, &str)>
-    ensures is { MatchOption result (literal_of lexeme.now ≡ None) (λ p. literal_of lexeme.now ≡ Some (p.0, p.1.now)) }
-    ensures short { IfSome result (λ p. length p.1.now ≤ length lexeme.now) }
-{
-    match quote(lexeme.as_bytes()) {
-        None => None,
-        Some(kind) => {
-            if closes(lexeme.as_bytes(), kind) {
-                Some((kind, inner(lexeme, kind)))
-            } else {
-                None
-            }
+impl<'a> Literal<'a> {
+    // The literal that a lexeme is, if it is one.
+    pub(crate) fn of(lexeme: &'a str) -> Option<Self>
+        requires { length lexeme.now ≤ 65536 }
+        ensures { MatchOption result (literal_of lexeme.now ≡ None) (λ l. literal_of lexeme.now ≡ Some (l.kind, l.inner.now)) }
+    {
+        let kind = quote(lexeme.as_bytes())?;
+        if !closes(lexeme.as_bytes(), kind) {
+            return None;
         }
+        Some(Literal {
+            kind,
+            inner: inner(lexeme, kind),
+        })
     }
 }
