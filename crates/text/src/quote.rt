@@ -1,31 +1,31 @@
 ghost use Rattle.std.specs.Prelude.{◌≡◌, ◌≤◌, true, length, IfSome, Some, None, MatchOption};
 ghost use Rattle.scan.specs.Prefix.{begins};
 ghost use Rattle.token.specs.Strings.{delimiter_of};
-ghost use Rattle.text.specs.Quotes.{closed_by, first_of, literal as literal_of, one as one_of, quotes, stripped, three as three_of};
+ghost use Rattle.text.specs.Quotes.{closed_by, first_of, literal as literal_of, quotes, stripped};
 
 use crate::literal::Literal;
 use scan::starts;
 use token::{StringDelimiter, StringKind};
 
-// A kind of string with three quotes.
-fn three(delimiter: StringDelimiter) -> StringKind
-    ensures { result ≡ three_of delimiter }
-{
+// The quotes, in the order in which they are tried.
+const QUOTES: [StringKind; 4] = [
     StringKind {
-        delimiter,
+        delimiter: StringDelimiter::QuoteDouble,
         indented: true,
-    }
-}
-
-// A kind of string with one quote.
-fn one(delimiter: StringDelimiter) -> StringKind
-    ensures { result ≡ one_of delimiter }
-{
+    },
     StringKind {
-        delimiter,
+        delimiter: StringDelimiter::QuoteDouble,
         indented: false,
-    }
-}
+    },
+    StringKind {
+        delimiter: StringDelimiter::QuoteSingle,
+        indented: true,
+    },
+    StringKind {
+        delimiter: StringDelimiter::QuoteSingle,
+        indented: false,
+    },
+];
 
 // Whether bytes begin with the delimiter of a kind.
 fn opens(bytes: &[u8], kind: StringKind) -> bool
@@ -38,17 +38,7 @@ fn opens(bytes: &[u8], kind: StringKind) -> bool
 fn quote(bytes: &[u8]) -> Option<StringKind>
     ensures { result ≡ first_of quotes bytes.now }
 {
-    if opens(bytes, three(StringDelimiter::QuoteDouble)) {
-        Some(three(StringDelimiter::QuoteDouble))
-    } else if opens(bytes, one(StringDelimiter::QuoteDouble)) {
-        Some(one(StringDelimiter::QuoteDouble))
-    } else if opens(bytes, three(StringDelimiter::QuoteSingle)) {
-        Some(three(StringDelimiter::QuoteSingle))
-    } else if opens(bytes, one(StringDelimiter::QuoteSingle)) {
-        Some(one(StringDelimiter::QuoteSingle))
-    } else {
-        None
-    }
+    QUOTES.iter().copied().find(|kind| opens(bytes, *kind))
 }
 
 // Whether bytes end with the delimiter of a kind, and are at least twice as long.
