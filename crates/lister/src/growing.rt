@@ -35,10 +35,7 @@ impl Listing<'_, '_> {
         ensures appends { OnOk result (Appends (listed (text_of self.old.source) (tokens_of (text_of self.old.source) tables)) self.old self.new) }
         ensures same_reference { self.new.out.ghost_name ≡ self.old.out.ghost_name }
     {
-        let mut levels = [Span {
-            offset: 0,
-            length: 0,
-        }; LEVELS];
+        let mut levels = [Span::default(); LEVELS];
         let mut openers = [Delimiter::Paren; OPENERS];
         let mut session = Session::open(
             self.source,

@@ -76,11 +76,8 @@ impl<'a> Line<'a> {
             Err(fault) => (fault.position, fault.length),
         };
         Fault {
-            cause: Cause::BufferTooShort,
-            layer: Layer::Text,
-            position,
-            length,
             needed,
+            ..Fault::new(Cause::BufferTooShort, Layer::Text, position, length)
         }
     }
 }
