@@ -4,6 +4,7 @@
 #![tactic(auto)]
 
 use survey::{report_line, survey};
+use words::append;
 
 fn main(rt: HostRuntime) -> anyhow::Result<()> {
     let heap = rt.alloc();
@@ -14,16 +15,6 @@ fn main(rt: HostRuntime) -> anyhow::Result<()> {
             append(&mut bytes, word)?;
         }
         rt.print(report_line(heap, survey(bytes.as_slice()))?)?;
-    }
-    Ok(())
-}
-
-// The bytes that a word stands for, behind those that are there.
-fn append(bytes: &mut Vec<u8>, word: &str) -> anyhow::Result<()> {
-    let (byte, count) = word.split_once('*').unwrap_or((word, "1"));
-    let byte = u8::from_str_radix(byte, 16)?;
-    for _ in 0..count.parse::<u32>()? {
-        bytes.push(byte)?;
     }
     Ok(())
 }

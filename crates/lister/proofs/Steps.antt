@@ -1,7 +1,8 @@
 -- A listing, line by line.
-use Rattle.std.proofs.Common.{◌≡◌, ℕ, ◌+◌, ◌-◌, ◌<◌, Bool, true, false, cond, leb, List, [], ◌∷◌, ◌++◌, length, take, drop, Some, None, Ok, Err, Option, Result, sym, ap, ◌∙◌, subst, arith}
+use Rattle.std.proofs.Common.{◌≡◌, ℕ, ◌+◌, ◌<◌, true, false, List, [], ◌∷◌, ◌++◌, length, Vec, vec_items, Some, None, Ok, Err, Option, Result, sym, ap, ◌∙◌, subst, arith}
 use Rattle.std.specs.List.{flat_map}
-use Rattle.std.proofs.lemmas.List.{append_assoc, take_at}
+use Rattle.std.specs.declared.alloc.Global.{Global}
+use Rattle.std.proofs.lemmas.List.{append_assoc}
 use Rattle.std.proofs.lemmas.Bool.{and_from, cond-true}
 use Rattle.token.specs.Told.{Told, gave, refused, refusal}
 use Rattle.token.specs.declared.fault.Fault.{Fault}
@@ -18,25 +19,10 @@ use Rattle.session.specs.Sessions.{state_of}
 use Rattle.session.specs.declared.record.Session.{Session}
 use Rattle.runs.specs.Coming.{meant}
 use Rattle.runs.proofs.Enough.{meant_goes, meant_leads, token_within, unfolded, whole_meant}
-use Rattle.listing.specs.Lines.{ended, fault_text, laid_out, line_answer, line_buffer, line_in, token_line, too_short_answer}
-use Rattle.listing.specs.declared.entry.Entry.{Entry}
-use Rattle.listing.specs.declared.entry.Entry.TheVariants as entry
+use Rattle.listing.specs.Lines.{ended, fault_text, laid_out, line_in, token_line}
+use Rattle.lister.specs.Growing.{Appends}
+use Rattle.lister.specs.declared.growing.Listing.{Listing}
 use Rattle.lister.specs.Listings.{clean, ending, listed, listing, listing_on, sound, sound_on, tables}
-
--- so many bytes as are answered are the line
-line_laid : (e : Entry) (line : Told (List ℕ)) (n : ℕ) (was now : List ℕ) → gave n ≡ line_answer e (length was) line → now ≡ line_buffer line was → take n now ≡ laid_out line
-line_laid e (refused r) n was now g f = absurd (let z : ◌≡◌ {A = ℕ} 0 1 = cc in omega arith)
-line_laid e (gave bs) n was now g f = by e (leb (length bs) (length was)) g f
-  where
-    by : (e : Entry) (fits : Bool) → gave n ≡ cond fits (gave (length bs)) (too_short_answer e (length bs)) → now ≡ cond fits (bs ++ drop (length bs) was) was → take n now ≡ bs
-    by e true g f = let m : n ≡ length bs = cc in ap (take n) f ∙ take_at bs (drop (length bs) was) n (sym m)
-    by (entry.Token t) false g f = absurd (let z : ◌≡◌ {A = ℕ} 0 1 = cc in omega arith)
-    by (entry.Fault t) false g f = absurd (let z : ◌≡◌ {A = ℕ} 0 1 = cc in omega arith)
-
-pub line_appended : (e : Entry) (line : Told (List ℕ)) (n : ℕ) (was now : List ℕ) → gave n ≡ line_answer e (length was) line → now ≡ line_buffer line was → (items more : List ℕ) → more ≡ items ++ take (n - 0) now → more ≡ items ++ laid_out line
-line_appended e line n was now g f items more q =
-    let z : n - 0 ≡ n = omega arith in
-    q ∙ ap (λ k. items ++ take k now) z ∙ ap (λ l. items ++ l) (line_laid e line n was now g f)
 
 -- a first line and the rest
 listed_more : (text : List ℕ) (m rest : Meaning) (t : Token) → m.tokens ≡ t ∷ rest.tokens → m.ending ≡ rest.ending → listed text m ≡ ended (token_line text t) ++ listed text rest
@@ -62,7 +48,7 @@ module _ (s n : Session) (t : Token) (a : Ok (Some t) ≡ answer (state_of s)) (
   stops = ap (λ k. bound text k) (sym behind) ∙ ap (λ (σ : State). bound σ.text n.cursor.position.offset) (sym l) ∙ n.cursor.between
 
   -- its line is not refused
-  line_of_token : line_in text (entry.Token t) ≡ gave (ended (token_line text t))
+  line_of_token : line_in text (Ok t) ≡ gave (ended (token_line text t))
   line_of_token = cond-true _ _ _ (and_from _ _ starts stops)
 
   pub fewer : length (meant (state_of n)).tokens < length (meant (state_of s)).tokens
@@ -77,10 +63,10 @@ module _ (s n : Session) (t : Token) (a : Ok (Some t) ≡ answer (state_of s)) (
       (meant_leads (state_of s) t (sym a) ∙ ap (λ (σ : State). t ∷ (meant σ).tokens) (sym l)) ending_on
 
   -- what is there once its line is appended, and what is to come then
-  pub turn : (bytes : List ℕ) → text ≡ bytes → (items more : List ℕ) → more ≡ items ++ laid_out (line_in bytes (entry.Token t)) → more ++ listed bytes (meant (state_of n)) ≡ items ++ listed bytes (meant (state_of s))
-  turn bytes e = subst (λ (bs : List ℕ). (items more : List ℕ) → more ≡ items ++ laid_out (line_in bs (entry.Token t)) → more ++ listed bs (meant (state_of n)) ≡ items ++ listed bs (meant (state_of s))) e by
+  pub turn : (bytes : List ℕ) → text ≡ bytes → (items more : List ℕ) → more ≡ items ++ laid_out (line_in bytes (Ok t)) → more ++ listed bytes (meant (state_of n)) ≡ items ++ listed bytes (meant (state_of s))
+  turn bytes e = subst (λ (bs : List ℕ). (items more : List ℕ) → more ≡ items ++ laid_out (line_in bs (Ok t)) → more ++ listed bs (meant (state_of n)) ≡ items ++ listed bs (meant (state_of s))) e by
     where
-      by : (items more : List ℕ) → more ≡ items ++ laid_out (line_in text (entry.Token t)) → more ++ listed text (meant (state_of n)) ≡ items ++ listed text (meant (state_of s))
+      by : (items more : List ℕ) → more ≡ items ++ laid_out (line_in text (Ok t)) → more ++ listed text (meant (state_of n)) ≡ items ++ listed text (meant (state_of s))
       by items more q =
           ap (λ l. l ++ listed text (meant (state_of n))) (q ∙ ap (λ l. items ++ laid_out l) line_of_token)
           ∙ append_assoc items (ended (token_line text t)) (listed text (meant (state_of n)))
@@ -110,14 +96,16 @@ module _ (σ : State) (f : Fault) (a : Err f ≡ answer σ) where
 
 -- all that a session hands out that stands at the opening
 module _ (text : List ℕ) (rooms : Rooms) (σ : State) (o : σ ≡ opening text rooms) where
-  as_defined : meant σ ≡ tokens_of text rooms
+  pub as_defined : meant σ ≡ tokens_of text rooms
   as_defined = ap meant o ∙ sym (whole_meant text rooms)
 
-  pub clean_whole : clean (meant σ).ending ≡ clean (tokens_of text rooms).ending
-  clean_whole = ap (λ (m : Meaning). clean m.ending) as_defined
+-- what ends a listing makes it the whole
+pub appends_all : {bytes all : List ℕ} {first last now : Listing} → last.source ≡ first.source → last.out.now.items ++ bytes ≡ first.out.now.items ++ all → Appends bytes last now → Appends all first now
+appends_all of whole a = record { items = a.items ∙ whole; source = a.source ∙ of }
 
-  pub listed_whole : listed text (meant σ) ≡ listed text (tokens_of text rooms)
-  listed_whole = ap (listed text) as_defined
+-- what the caller's list holds once the borrow ends
+pub grown : {bytes all : List ℕ} {first last : Listing} {out : Vec ℕ Global} → out ≡ last.out.now → Appends bytes first last → bytes ≡ all → out.items ≡ first.out.now.items ++ all
+grown {first = first} q a e = ap vec_items q ∙ a.items ∙ ap (λ l. first.out.now.items ++ l) e
 
 -- a text is admitted and held
 module _ (bs text old : List ℕ) (g : gave tt ≡ admission bs) (h : text ≡ held_after (admission bs) bs old) where

@@ -1,3 +1,4 @@
 pub mod Laying
 pub mod Names
 pub mod Lines
+pub mod Writers

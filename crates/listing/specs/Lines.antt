@@ -1,14 +1,13 @@
 -- The lines of a listing, as bytes.
-use Rattle.std.specs.Prelude.{ℕ, cond, List, [], ◌∷◌, ◌++◌, length, drop, codes, decimal, ◌==◌, nat_le}
+use Rattle.std.specs.Prelude.{ℕ, cond, List, [], ◌∷◌, ◌++◌, length, drop, codes, decimal, Ok, Err, Result, ◌==◌, nat_le}
 use Rattle.std.specs.List.{flat_map}
 use Rattle.token.specs.Told.{Told, Refusal, gave, refused, refusal, refused_over}
+use Rattle.token.specs.declared.fault.Fault.{Fault}
 use Rattle.token.specs.declared.fault.Layer.TheVariants as layer
 use Rattle.token.specs.declared.place.Position.{Position}
 use Rattle.token.specs.declared.place.Token.{Token}
 use Rattle.source.specs.Sources.{cuts, part}
 use Rattle.listing.specs.Names.{name_of}
-use Rattle.listing.specs.declared.entry.Entry.{Entry}
-use Rattle.listing.specs.declared.entry.Entry.TheVariants as entry
 
 -- what a byte prints as: \n, \r, \t, or itself
 abbrev pub shown : ℕ → List ℕ
@@ -56,10 +55,12 @@ fault_text r =
 abbrev pub ended : List ℕ → List ℕ
 ended line = line ++ (10 ∷ [])
 
+-- An entry is a token, or the fault that ends a listing.
+
 -- the line of an entry, or the refusal of a token that does not begin and end inside the text between characters
-abbrev pub line_in : List ℕ → Entry → Told (List ℕ)
-line_in text (entry.Token t) = cond (cuts text t.position.offset t.length) (gave (ended (token_line text t))) (refused_over 6 layer.Text t)
-line_in text (entry.Fault f) = gave (ended (fault_text (refusal f)))
+abbrev pub line_in : List ℕ → Result Token Fault → Told (List ℕ)
+line_in text (Ok t) = cond (cuts text t.position.offset t.length) (gave (ended (token_line text t))) (refused_over 6 layer.Text t)
+line_in text (Err f) = gave (ended (fault_text (refusal f)))
 
 -- 5, with the length needed
 abbrev pub short_over : Position → (length needed : ℕ) → Told ℕ
@@ -73,12 +74,12 @@ short_over p length needed = refused record {
   needed = needed;
 }
 
-abbrev pub too_short_answer : Entry → ℕ → Told ℕ
-too_short_answer (entry.Token t) needed = short_over t.position t.length needed
-too_short_answer (entry.Fault f) needed = short_over f.position f.length needed
+abbrev pub too_short_answer : Result Token Fault → ℕ → Told ℕ
+too_short_answer (Ok t) needed = short_over t.position t.length needed
+too_short_answer (Err f) needed = short_over f.position f.length needed
 
 -- what is answered where the line is to fill a buffer of so much room
-abbrev pub line_answer : Entry → ℕ → Told (List ℕ) → Told ℕ
+abbrev pub line_answer : Result Token Fault → ℕ → Told (List ℕ) → Told ℕ
 line_answer e room (gave bs) = cond (nat_le (length bs) room) (gave (length bs)) (too_short_answer e (length bs))
 line_answer e room (refused r) = refused r
 
@@ -93,6 +94,6 @@ laid_out (gave bs) = bs
 laid_out (refused r) = []
 
 -- the line of an entry whose lexeme is known; that of a fault has none
-abbrev pub line_of : Entry → List ℕ → List ℕ
-line_of (entry.Token t) lexeme = ended (barred t lexeme)
-line_of (entry.Fault f) lexeme = ended (fault_text (refusal f))
+abbrev pub line_of : Result Token Fault → List ℕ → List ℕ
+line_of (Ok t) lexeme = ended (barred t lexeme)
+line_of (Err f) lexeme = ended (fault_text (refusal f))

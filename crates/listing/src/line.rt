@@ -1,109 +1,111 @@
-ghost use Rattle.std.specs.Prelude.{◌≡◌, ◌≤◌, length};
-ghost use Rattle.token.specs.Told.{gave, refusal, refused, told};
+ghost use Rattle.std.specs.Prelude.{◌≡◌, ◌+◌, ◌*◌, ◌≤◌, length, IfOk};
+ghost use Rattle.token.specs.Told.{refusal, refused, told, told_by};
 ghost use Rattle.source.specs.Sources.{text_of};
-ghost use Rattle.listing.specs.Laying.{Lays};
-ghost use Rattle.listing.specs.Lines.{barred, ended, fault_text, heading as heading_of, laid_out, line_answer, line_buffer, line_in, line_of, too_short_answer};
+ghost use Rattle.listing.specs.Laying.{laid};
+ghost use Rattle.listing.specs.Lines.{barred, ended, fault_text, laid_out, line_answer, line_buffer, line_in, line_of, too_short_answer};
+ghost use Rattle.listing.specs.Writers.{Writes};
 
-use crate::entry::Entry;
-use crate::laying::{field, print, push, put};
 use crate::names::name;
+use crate::writer::Writer;
 use source::Source;
 use token::{Cause, Fault, Layer, Token};
 
 // The longest line: 65 bytes before the first bar, two bars, a line feed, and two bytes for each of a lexeme.
 pub const MAX_LINE: usize = 131_140;
 
-// Writes the line of an entry, with its line feed, into the start of a buffer and answers its length.
-pub fn write_line(source: &Source, entry: Entry, buffer: &mut [u8]) -> Result<usize, Fault>
+// Writes the line of a token, or of the fault that ends a listing, with its line feed into the start of a buffer and answers its length.
+pub fn write_line(
+    source: &Source,
+    entry: Result<Token, Fault>,
+    buffer: &mut [u8],
+) -> Result<usize, Fault>
     ensures gives { told result ≡ line_answer entry (length buffer.old) (line_in (text_of source.now) entry) }
     ensures fills { buffer.new ≡ line_buffer (line_in (text_of source.now) entry) buffer.old }
     ensures short { length (laid_out (line_in (text_of source.now) entry)) ≤ 131140 }
 {
-    match entry {
-        Entry::Token(token) => match source.lexeme(token) {
-            Ok(lexeme) => fill(entry, lexeme, buffer),
-            Err(fault) => Err(fault),
-        },
-        Entry::Fault(_) => fill(entry, "", buffer),
-    }
-}
-
-// Measures, and then writes if there is room.
-fn fill(entry: Entry, lexeme: &str, buffer: &mut [u8]) -> Result<usize, Fault>
-    requires { length lexeme.now ≤ 65536 }
-    ensures gives { told result ≡ line_answer entry (length buffer.old) (gave (line_of entry lexeme.now)) }
-    ensures fills { buffer.new ≡ line_buffer (gave (line_of entry lexeme.now)) buffer.old }
-    ensures short { length (line_of entry lexeme.now) ≤ 131140 }
-{
-    let n = lay(entry, lexeme, &mut []);
+    let line = Line::new(source, entry)?;
+    let n = line.lay(&mut []);
     if n > buffer.len() {
-        return Err(too_short(entry, n as u32));
+        return Err(line.too_short(n as u32));
     }
-    lay(entry, lexeme, buffer);
+    line.lay(buffer);
     Ok(n)
 }
 
-// Writes the line of an entry as far as there is room, and answers its length. A fault has no lexeme.
-fn lay(entry: Entry, lexeme: &str, out: &mut [u8]) -> usize
-    requires { length lexeme.now ≤ 65536 }
-    ensures lays { Lays 0 (line_of entry lexeme.now) out.old result out.new }
-    ensures near { result ≤ 131140 }
-{
-    match entry {
-        Entry::Token(token) => lay_token(token, lexeme, out),
-        Entry::Fault(fault) => lay_fault(fault, out),
+// What a line tells: a token and its lexeme, or a fault, which has none.
+#[derive(Clone, Copy)]
+struct Line<'a> {
+    entry: Result<Token, Fault>,
+    lexeme: &'a str,
+    ghost small: { length lexeme.now ≤ 65536 },
+}
+
+impl<'a> Line<'a> {
+    // The line of an entry, or the refusal of a token that is not in the text.
+    fn new(source: &Source<'a>, entry: Result<Token, Fault>) -> Result<Self, Fault>
+        ensures tells { told_by (λ l. line_of entry l.lexeme.now) result ≡ line_in (text_of source.now) entry }
+        ensures of { IfOk result (λ l. l.entry ≡ entry) }
+    {
+        let lexeme = match entry {
+            Ok(token) => source.lexeme(token)?,
+            Err(_) => "",
+        };
+        Ok(Line { entry, lexeme })
+    }
+
+    // Writes it as far as there is room, and answers its length.
+    fn lay(&self, buffer: &mut [u8]) -> usize
+        ensures long { result ≡ length (line_of self.now.entry self.now.lexeme.now) }
+        ensures short { result ≤ 131140 }
+        ensures lays { buffer.new ≡ laid buffer.old 0 (line_of self.now.entry self.now.lexeme.now) }
+    {
+        let mut out = Writer::new(buffer);
+        match self.entry {
+            Ok(token) => out.token(token, self.lexeme),
+            Err(fault) => out.fault(fault),
+        }
+        out.place()
+    }
+
+    // The refusal of a buffer that is shorter than it is.
+    fn too_short(&self, needed: u32) -> Fault
+        ensures { refused (refusal result) ≡ too_short_answer self.now.entry needed }
+    {
+        let (position, length) = match self.entry {
+            Ok(token) => (token.position, token.length),
+            Err(fault) => (fault.position, fault.length),
+        };
+        Fault {
+            needed,
+            ..Fault::new(Cause::BufferTooShort, Layer::Text, position, length)
+        }
     }
 }
 
-fn lay_token(token: Token, lexeme: &str, out: &mut [u8]) -> usize
-    requires { length lexeme.now ≤ 65536 }
-    ensures lays { Lays 0 (ended (barred token lexeme.now)) out.old result out.new }
-    ensures near { result ≤ 131140 }
-{
-    let start = heading(token, out);
-    let from = push(out, start, b'|');
-    let to = print(out, from, lexeme.as_bytes());
-    put(out, to, b"|\n")
-}
+impl Writer<'_> {
+    fn token(&mut self, token: Token, lexeme: &str)
+        ensures writes { Writes (ended (barred token lexeme.now)) self.old self.new }
+        ensures short { length (ended (barred token lexeme.now)) ≤ 68 + 2 * length lexeme.now }
+    {
+        self.field(token.position.line, b':');
+        self.field(token.position.column, b' ');
+        self.field(token.position.offset, b' ');
+        self.field(token.length, b' ');
+        self.put(name(token.kind).as_bytes());
+        self.put(b" |");
+        self.print(lexeme.as_bytes());
+        self.put(b"|\n");
+    }
 
-// All before the first bar.
-fn heading(token: Token, out: &mut [u8]) -> usize
-    ensures lays { Lays 0 (heading_of token) out.old result out.new }
-    ensures near { result ≤ 65 }
-{
-    let a = field(out, 0, token.position.line, b':');
-    let b = field(out, a, token.position.column, b' ');
-    let c = field(out, b, token.position.offset, b' ');
-    let d = field(out, c, token.length, b' ');
-    let e = put(out, d, name(token.kind).as_bytes());
-    push(out, e, b' ')
-}
-
-fn lay_fault(fault: Fault, out: &mut [u8]) -> usize
-    ensures lays { Lays 0 (ended (fault_text (refusal fault))) out.old result out.new }
-    ensures near { result ≤ 65 }
-{
-    let a = put(out, 0, b"fault ");
-    let b = field(out, a, fault.cause.number(), b' ');
-    let c = field(out, b, fault.position.line, b':');
-    let d = field(out, c, fault.position.column, b' ');
-    let e = field(out, d, fault.position.offset, b' ');
-    field(out, e, fault.length, b'\n')
-}
-
-// The refusal of a buffer that is shorter than the line.
-fn too_short(entry: Entry, needed: u32) -> Fault
-    ensures { refused (refusal result) ≡ too_short_answer entry needed }
-{
-    let (position, length) = match entry {
-        Entry::Token(token) => (token.position, token.length),
-        Entry::Fault(fault) => (fault.position, fault.length),
-    };
-    Fault {
-        cause: Cause::BufferTooShort,
-        layer: Layer::Text,
-        position,
-        length,
-        needed,
+    fn fault(&mut self, fault: Fault)
+        ensures writes { Writes (ended (fault_text (refusal fault))) self.old self.new }
+        ensures short { length (ended (fault_text (refusal fault))) ≤ 61 }
+    {
+        self.put(b"fault ");
+        self.field(fault.cause.number(), b' ');
+        self.field(fault.position.line, b':');
+        self.field(fault.position.column, b' ');
+        self.field(fault.position.offset, b' ');
+        self.field(fault.length, b'\n');
     }
 }

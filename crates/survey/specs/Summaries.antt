@@ -23,10 +23,10 @@ abbrev pub summary_of : List ℕ → Told Summary
 summary_of bs = counted_if (admission bs) bs
 
 -- bytes N lines N end line:column
-abbrev pub summary_line_of : (bytes lines line column : ℕ) → List ℕ
-summary_line_of bytes lines line column =
-    codes "bytes " ++ (decimal bytes ++ (codes " lines " ++ (decimal lines ++ (codes " end " ++ (decimal line ++ (codes ":" ++ (decimal column ++ codes "\n")))))))
+abbrev pub summary_text : Summary → List ℕ
+summary_text s =
+    codes "bytes " ++ (decimal s.bytes ++ (codes " lines " ++ (decimal s.lines ++ (codes " end " ++ (decimal s.end.line ++ (codes ":" ++ decimal s.end.column))))))
 
 abbrev pub line_of_report : Told Summary → List ℕ
-line_of_report (gave s) = summary_line_of s.bytes s.lines s.end.line s.end.column
+line_of_report (gave s) = summary_text s ++ codes "\n"
 line_of_report (refused r) = line_of_fault r

@@ -5,6 +5,7 @@
 
 use lister::list;
 use std::io::{BufRead, BufReader, Write};
+use words::append;
 
 fn main(rt: HostRuntime) -> anyhow::Result<()> {
     let heap = rt.alloc();
@@ -18,16 +19,6 @@ fn main(rt: HostRuntime) -> anyhow::Result<()> {
         let _ = list(heap, text.as_slice(), &mut listing)?;
         listing.extend_from_slice(b"--\n")?;
         rt.stdout().write_all(listing.as_slice())?;
-    }
-    Ok(())
-}
-
-// The bytes that a word stands for, behind those that are there.
-fn append(bytes: &mut Vec<u8>, word: &str) -> anyhow::Result<()> {
-    let (byte, count) = word.split_once('*').unwrap_or((word, "1"));
-    let byte = u8::from_str_radix(byte, 16)?;
-    for _ in 0..count.parse::<u32>()? {
-        bytes.push(byte)?;
     }
     Ok(())
 }
