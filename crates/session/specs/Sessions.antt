@@ -1,5 +1,5 @@
 -- What a session value stands for.
-use Rattle.std.specs.Prelude.{false, List}
+use Rattle.std.specs.Prelude.{List}
 use Rattle.source.specs.Sources.{text_of}
 use Rattle.stack.specs.Held.{room, stacked}
 use Rattle.lexer.specs.States.{Inner, Standing, State}
@@ -30,6 +30,6 @@ turned σ i = stands σ (record { levels = σ.standing.levels; body = σ.standin
 abbrev pub inner_of : State → Inner
 inner_of σ = σ.standing.inner
 
--- the openers are others, and the token was no f
+-- the openers are others
 abbrev pub opened : State → List Delimiter → State
-opened σ ds = turned σ (record { openers = ds; mark = (inner_of σ).mark; colon = (inner_of σ).colon; formats = false })
+opened σ ds = turned σ (record { openers = ds; mark = (inner_of σ).mark; colon = (inner_of σ).colon; formats = (inner_of σ).formats })

@@ -63,16 +63,9 @@ impl<'a, 't> Session<'a, 't> {
     {
         if self.may_lead_outward() {
             let blank = self.blank();
-            let end = self.offset() + blank.length;
+            let end = self.here().offset as usize + blank.length;
             self.outward = blank.outdents;
             self.known = end;
         }
-    }
-
-    // The place's offset.
-    fn offset(&self) -> usize
-        ensures { result ≡ self.now.cursor.position.offset }
-    {
-        self.cursor.position().offset as usize
     }
 }

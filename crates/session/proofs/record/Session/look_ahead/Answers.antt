@@ -5,6 +5,7 @@ use Rattle.scan.specs.Classes.{white}
 use Rattle.source.specs.Cursors.{ahead}
 use Rattle.source.specs.Sources.{text_of}
 use Rattle.lines.specs.declared.reached.Reach.{Reach}
+use Rattle.token.specs.declared.place.Position.{Position}
 use Rattle.session.proofs.Handed.{settled_here}
 use Rattle.session.proofs.record.Session.look_ahead.Goals as goal
 
@@ -17,5 +18,5 @@ overflow_add-end c =
 pub invariant_of-self : goal.invariant_of-self
 invariant_of-self c = record {
   shallow = c.args.self.now.shallow;
-  settled = settled_here c.args.self.now c.offset.result c.blank-blank.result c.offset.ensures c.blank-blank.ensures;
+  settled = settled_here c.args.self.now c.here.result.offset c.blank-blank.result (ap (λ (p : Position). p.offset) c.here.ensures) c.blank-blank.ensures;
 }
