@@ -4,8 +4,7 @@ use Rattle.token.specs.declared.fault.Cause.{Cause}
 use Rattle.token.specs.declared.place.Token.{Token}
 use Rattle.rules.specs.Effects.{effect_of}
 use Rattle.rules.specs.Laws.{Fits, Sound}
-use Rattle.rules.specs.declared.found.Found.{Found}
-use Rattle.rules.specs.declared.found.Found.TheVariants.{Lexed, Fails, Unclosed}
+use Rattle.rules.specs.Found.{Found, Lexed, Fails, Unclosed}
 use Rattle.rules.proofs.Ruled.{rules_sound}
 use Rattle.lexer.specs.Answers.{answer, lacks, placed, roomed, stored}
 use Rattle.lexer.specs.States.{State, ahead, around, found, level_texts}

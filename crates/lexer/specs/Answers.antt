@@ -13,10 +13,8 @@ use Rattle.scan.specs.Prefix.{begins}
 use Rattle.source.specs.Places.{walk}
 use Rattle.rules.specs.Lines.{same}
 use Rattle.rules.specs.Strings.{kind_of}
-use Rattle.rules.specs.declared.found.Found.{Found}
-use Rattle.rules.specs.declared.found.Found.TheVariants.{Lexed, Fails, Unclosed}
-use Rattle.rules.specs.declared.found.Layout.{Layout}
-use Rattle.rules.specs.declared.found.Layout.TheVariants as layout
+use Rattle.rules.specs.Found.{Found, Lexed, Fails, Unclosed}
+use Rattle.rules.specs.Causes.{cause_of_layout}
 use Rattle.lexer.specs.declared.seen.Seen.{Seen}
 use Rattle.lexer.specs.States.{Inner, Standing, State, ahead, found}
 use Rattle.rules.specs.Effects.{effect_of}
@@ -24,21 +22,6 @@ use Rattle.rules.specs.declared.parts.Change.{Change}
 use Rattle.rules.specs.declared.parts.Change.TheVariants.{Nothing, Marks, Unmarks, SeesColon, Names, Opens, Closes, BeginsFormat, EndsFormat}
 use Rattle.rules.specs.declared.parts.Effect.{Effect}
 use Rattle.rules.specs.declared.parts.Effect.TheVariants.{Indents, Dedents, Texts, Ends, Other}
-
--- the causes of the layout
-abbrev pub cause_of_layout : Layout → Cause
-cause_of_layout layout.MixedLeadingWhitespace = cause.MixedLeadingWhitespace
-cause_of_layout layout.InconsistentLeadingWhitespace = cause.InconsistentLeadingWhitespace
-cause_of_layout layout.UnknownStartOfToken = cause.UnknownStartOfToken
-cause_of_layout layout.UnexpectedCharacter = cause.UnexpectedCharacter
-cause_of_layout layout.UnexpectedEndOfToken = cause.UnexpectedEndOfToken
-cause_of_layout layout.MismatchedClosingDelimiter = cause.MismatchedClosingDelimiter
-cause_of_layout layout.UnexpectedClosingDelimiter = cause.UnexpectedClosingDelimiter
-cause_of_layout layout.InvalidEscapeSequence = cause.InvalidEscapeSequence
-cause_of_layout layout.EscapeEndOfFile = cause.EscapeEndOfFile
-cause_of_layout layout.UnpairedCarriageReturn = cause.UnpairedCarriageReturn
-cause_of_layout layout.UnterminatedString = cause.UnterminatedString
-cause_of_layout layout.UnterminatedBacktick = cause.UnterminatedBacktick
 
 -- a fault of the session, at a place and of a length
 abbrev pub fault_at : Cause → Position → ℕ → Fault

@@ -9,8 +9,7 @@ use Rattle.token.specs.declared.place.Token.{Token}
 use Rattle.source.specs.Places.{walk}
 use Rattle.source.proofs.Walks.{walk_offset}
 use Rattle.rules.specs.Effects.{effect_of}
-use Rattle.rules.specs.declared.found.Found.{Found}
-use Rattle.rules.specs.declared.found.Found.TheVariants.{Lexed, Fails, Unclosed}
+use Rattle.rules.specs.Found.{Found, Lexed, Fails, Unclosed}
 use Rattle.lexer.specs.Answers.{after, answer, lacks, placed, roomed, stored}
 use Rattle.lexer.proofs.Came.{came}
 use Rattle.lexer.specs.Runs.{Meaning}

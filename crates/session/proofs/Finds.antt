@@ -9,8 +9,7 @@ use Rattle.source.specs.declared.cursor.Cursor.{Cursor}
 use Rattle.rules.specs.Effects.{effect_of}
 use Rattle.rules.specs.Laws.{Fits, Sound}
 use Rattle.rules.specs.declared.found.Around.{Around}
-use Rattle.rules.specs.declared.found.Found.{Found}
-use Rattle.rules.specs.declared.found.Found.TheVariants.{Lexed, Fails, Unclosed}
+use Rattle.rules.specs.Found.{Found, Lexed, Fails, Unclosed}
 use Rattle.rules.specs.declared.parts.Effect.{Effect}
 use Rattle.rules.specs.declared.parts.Effect.TheVariants.{Indents, Dedents, Texts, Ends, Other}
 use Rattle.rules.proofs.Ruled.{rules_sound}
