@@ -42,23 +42,15 @@ abbrev pub full : {A : Type 0} → List A → ℕ → Cause → Option Cause
 full xs room c = cond (nat_le room (length xs)) (Some c) None
 
 abbrev pub full_by : State → Change → Option Cause
-full_by σ Nothing = None
-full_by σ Marks = None
-full_by σ Unmarks = None
-full_by σ SeesColon = None
-full_by σ Names = None
 full_by σ (Opens d) = full σ.standing.inner.openers σ.rooms.openers cause.OpenersFull
-full_by σ (Closes d) = None
 full_by σ BeginsFormat = full σ.standing.inner.openers σ.rooms.openers cause.OpenersFull
-full_by σ EndsFormat = None
+full_by σ _ = None
 
 -- the table that a token needs and that is full
 abbrev pub lacks : State → Effect → Option Cause
 lacks σ Indents = full σ.standing.levels σ.rooms.levels cause.LevelsFull
-lacks σ Dedents = None
-lacks σ Texts = None
-lacks σ Ends = None
 lacks σ (Other c) = full_by σ c
+lacks σ _ = None
 
 abbrev pub roomed : Token → Option Cause → Result (Option Token) Fault
 roomed t None = Ok (Some t)
@@ -87,39 +79,28 @@ seen t s = record { quote = quote_of s; f = same (take t.length s) (102 ∷ []) 
 
 -- what a small change leaves
 abbrev pub changed : Change → Token → Seen → Inner → Inner
-changed Nothing t s i = record { openers = i.openers; mark = i.mark; colon = i.colon; formats = false }
-changed Marks t s i = record { openers = i.openers; mark = Some t; colon = i.colon; formats = false }
-changed Unmarks t s i = record { openers = i.openers; mark = None; colon = i.colon; formats = false }
-changed SeesColon t s i = record { openers = i.openers; mark = i.mark; colon = true; formats = false }
-changed Names t s i = record { openers = i.openers; mark = i.mark; colon = i.colon; formats = s.f }
-changed (Opens d) t s i = record { openers = d ∷ i.openers; mark = i.mark; colon = i.colon; formats = false }
-changed (Closes d) t s i = record { openers = behind i.openers; mark = i.mark; colon = i.colon; formats = false }
-changed BeginsFormat t s i = record { openers = FormatString s.quote ∷ i.openers; mark = i.mark; colon = i.colon; formats = false }
-changed EndsFormat t s i = record { openers = behind i.openers; mark = i.mark; colon = i.colon; formats = false }
+changed Nothing t s i = record i { formats = false }
+changed Marks t s i = record i { mark = Some t; formats = false }
+changed Unmarks t s i = record i { mark = None; formats = false }
+changed SeesColon t s i = record i { colon = true; formats = false }
+changed Names t s i = record i { formats = s.f }
+changed (Opens d) t s i = record i { openers = d ∷ i.openers; formats = false }
+changed (Closes d) t s i = record i { openers = behind i.openers; formats = false }
+changed BeginsFormat t s i = record i { openers = FormatString s.quote ∷ i.openers; formats = false }
+changed EndsFormat t s i = record i { openers = behind i.openers; formats = false }
 
 -- what a token leaves
 abbrev pub stood : Effect → Token → Seen → Standing → Standing
-stood Indents t s w = record {
+stood Indents t s w = record w {
   levels = record { offset = t.position.offset; length = t.length } ∷ w.levels;
   body = w.inner.colon;
-  ended = w.ended;
   inner = changed Nothing t s w.inner;
 }
-stood Dedents t s w = record {
-  levels = behind w.levels;
-  body = false;
-  ended = w.ended;
-  inner = record { openers = w.inner.openers; mark = w.inner.mark; colon = false; formats = false };
-}
-stood Texts t s w = record { levels = w.levels; body = w.body; ended = w.ended; inner = changed Nothing t s w.inner }
-stood Ends t s w = record { levels = w.levels; body = w.body; ended = true; inner = changed Nothing t s w.inner }
-stood (Other c) t s w = record { levels = w.levels; body = w.body; ended = w.ended; inner = changed c t s w.inner }
+stood Dedents t s w = record w { levels = behind w.levels; body = false; inner = record w.inner { colon = false; formats = false } }
+stood Texts t s w = record w { inner = changed Nothing t s w.inner }
+stood Ends t s w = record w { ended = true; inner = changed Nothing t s w.inner }
+stood (Other c) t s w = record w { inner = changed c t s w.inner }
 
 -- the session once a token was handed out
 abbrev pub after : State → Token → State
-after σ t = record {
-  text = σ.text;
-  rooms = σ.rooms;
-  place = walk t.length (ahead σ) σ.place;
-  standing = stood (effect_of t.kind) t (seen t (ahead σ)) σ.standing;
-}
+after σ t = record σ { place = walk t.length (ahead σ) σ.place; standing = stood (effect_of t.kind) t (seen t (ahead σ)) σ.standing }

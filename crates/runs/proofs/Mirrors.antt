@@ -135,14 +135,7 @@ proper (Other c) n w σ o q m f = matches c σ o m f.2
 -- small changes touch neither the open Indents nor the end
 changes_indents : (c : Change) (o : Open) → (changes c o).indents ≡ o.indents
 changes_indents change.Nothing o = refl
-changes_indents change.Marks o = refl
-changes_indents change.Unmarks o = refl
-changes_indents change.SeesColon o = refl
-changes_indents change.Names o = refl
-changes_indents (change.Opens d) o = refl
-changes_indents (change.Closes d) o = refl
-changes_indents change.BeginsFormat o = refl
-changes_indents change.EndsFormat o = refl
+changes_indents _ o = refl
 
 changes_ended : (c : Change) (o : Open) → (changes c o).ended ≡ o.ended
 changes_ended change.Nothing o = refl
