@@ -14,6 +14,7 @@ use Rattle.rules.specs.declared.parts.Effect.{Effect}
 use Rattle.rules.specs.declared.parts.Effect.TheVariants.{Indents, Dedents, Texts, Ends, Other}
 use Rattle.rules.proofs.Ruled.{rules_sound}
 use Rattle.rules.proofs.Whole.{Whole, rule_whole}
+use Rattle.lexer.proofs.Came.{fits_within}
 use Rattle.lexer.specs.States.{State, ahead, around, found, level_texts}
 use Rattle.session.specs.Sessions.{state_of}
 use Rattle.session.specs.Sized.{Sized}
@@ -25,15 +26,8 @@ cursor_text c =
     let u = well_formed_text (text_of c.source) c.source.valid in
     IsUtf8-drop (text_of c.source) c.position.offset u (bound_boundary (text_of c.source) c.position.offset u c.between)
 
-pub fits_length : (fresh : Bool) (o : Around) (ls : List (List ℕ)) (s : List ℕ) (e : Effect) (n : ℕ) → Fits fresh o ls s e n → n ≤ length s
-fits_length fresh o ls s Indents n h = omega (arith, h.1.within)
-fits_length fresh o ls s Dedents n h = omega (arith, h.0)
-fits_length fresh o ls s Texts n h = h.1
-fits_length fresh o ls s Ends n h = omega (arith, h.0)
-fits_length fresh o ls s (Other c) n h = h.1
-
 sized_by : (fresh : Bool) (o : Around) (ls : List (List ℕ)) (σ : State) (f : Found) → length (ahead σ) ≤ 65536 → IsUtf8 (ahead σ) → Sound fresh o ls (ahead σ) f → Whole (ahead σ) f → Sized σ f
-sized_by fresh o ls σ (Lexed k n) l u h w = omega (arith, fits_length fresh o ls (ahead σ) (effect_of k) n h)
+sized_by fresh o ls σ (Lexed k n) l u h w = omega (arith, fits_within fresh o ls (ahead σ) (effect_of k) n h)
 sized_by fresh o ls σ (Fails c a n) l u h w = (boundary_bound (ahead σ) a u w, omega (arith, h.1))
 sized_by fresh o ls σ Unclosed l u h w = tt
 

@@ -16,7 +16,7 @@ use Rattle.rules.specs.declared.parts.Effect.{Effect}
 use Rattle.rules.specs.declared.parts.Effect.TheVariants.{Indents, Dedents, Texts, Ends, Other}
 use Rattle.rules.proofs.Whole.{Whole, rule_whole}
 use Rattle.lexer.specs.Answers.{answer, full, full_by, lacks}
-use Rattle.lexer.proofs.Came.{came, fitting}
+use Rattle.lexer.proofs.Came.{came, fitting, token_within}
 use Rattle.lexer.specs.States.{ahead, around, found, level_texts}
 use Rattle.session.specs.Able.{Able, Deep, Open}
 use Rattle.session.specs.Sessions.{state_of}
@@ -29,65 +29,46 @@ use Rattle.lines.specs.Reaches.{reach_of, settled}
 use Rattle.lines.specs.declared.reached.Reach.{Reach}
 use Rattle.lines.proofs.Settled.{settled_drop, settled_run}
 use Rattle.token.specs.declared.place.Position.{Position}
-use Rattle.session.proofs.Finds.{cursor_text, fits_length}
+use Rattle.session.proofs.Finds.{cursor_text}
 
 -- a table that is not full has room
 not_full : {A : Type 0} (xs : List A) (room : ℕ) (c : Cause) → full xs room c ≡ None → length xs < room
 not_full xs room c e = go (leb room (length xs)) refl e
   where
     go : (b : Bool) → leb room (length xs) ≡ b → cond b (Some c) None ≡ None → length xs < room
-    go true q e = absurd (let z : ◌≡◌ {A = ℕ} 0 1 = cc in omega arith)
+    go true q e = cc
     go false q e = leb-false room (length xs) q
 
 change_able : (s : Session) (c : Change) → full_by (state_of s) c ≡ None → Open s c
-change_able s change.Nothing e = tt
-change_able s change.Marks e = tt
-change_able s change.Unmarks e = tt
-change_able s change.SeesColon e = tt
-change_able s change.Names e = tt
 change_able s (change.Opens d) e = lt-ltb _ _ (not_full _ _ _ e)
-change_able s (change.Closes d) e = tt
 change_able s change.BeginsFormat e = lt-ltb _ _ (not_full _ _ _ e)
-change_able s change.EndsFormat e = tt
+change_able s _ e = tt
 
 able : (s : Session) (f : Effect) → lacks (state_of s) f ≡ None → Able s f
 able s Indents e = lt-ltb _ _ (not_full _ _ _ e)
-able s Dedents e = tt
-able s Texts e = tt
-able s Ends e = tt
 able s (Other c) e = change_able s c e
+able s _ e = tt
 
 -- what has room does not turn on the place
 open_same : (s u : Session) (c : Change) → u.openers ≡ s.openers → Open s c → Open u c
-open_same s u change.Nothing o h = tt
-open_same s u change.Marks o h = tt
-open_same s u change.Unmarks o h = tt
-open_same s u change.SeesColon o h = tt
-open_same s u change.Names o h = tt
 open_same s u (change.Opens d) o h = ap fits o ∙ h
-open_same s u (change.Closes d) o h = tt
 open_same s u change.BeginsFormat o h = ap fits o ∙ h
-open_same s u change.EndsFormat o h = tt
+open_same s u _ o h = tt
 
 able_same : (s u : Session) (f : Effect) → u.levels ≡ s.levels → u.openers ≡ s.openers → Able s f → Able u f
 able_same s u Indents l o h = ap fits l ∙ h
-able_same s u Dedents l o h = tt
-able_same s u Texts l o h = tt
-able_same s u Ends l o h = tt
 able_same s u (Other c) l o h = open_same s u c o h
+able_same s u _ l o h = tt
 
 -- behind a token of so many bytes an Indent has bytes of its own
 deep : (s u : Session) (n : ℕ) (f : Effect) → u.levels ≡ s.levels → u.cursor.position.offset ≡ s.cursor.position.offset + n → Fits (eqb s.cursor.position.column 0) (around (state_of s)) (level_texts (state_of s)) (ahead (state_of s)) f n → Deep u f
 deep s u n Indents l o h = omega (arith, s.shallow, h.1.longer, o, ap (λ (x : Stack Span). length (stacked x)) l)
-deep s u n Dedents l o h = tt
-deep s u n Texts l o h = tt
-deep s u n Ends l o h = tt
-deep s u n (Other c) l o h = tt
+deep s u n _ l o h = tt
 
 -- behind a token that is answered
 module _ (s : Session) (t : Token) (e : answer (state_of s) ≡ Ok (Some t)) (c : Cursor) (k : c.source ≡ s.cursor.source) (w : c.position ≡ walk t.length (ahead_of s.cursor) s.cursor.position) where
   within : t.length ≤ length (ahead_of s.cursor)
-  within = fits_length _ _ _ _ _ _ (fitting (state_of s) t e)
+  within = token_within (state_of s) t e
 
   offset : c.position.offset ≡ s.cursor.position.offset + t.length
   offset = ap (λ (q : Position). q.offset) w ∙ walk_offset t.length (ahead_of s.cursor) s.cursor.position within

@@ -8,27 +8,16 @@ use Rattle.rules.specs.declared.parts.Effect.TheVariants.{Indents, Dedents, Text
 use Rattle.session.specs.declared.record.Session.{Session}
 
 abbrev pub Open : Session → Change → Type 0
-Open s change.Nothing = Unit {0}
-Open s change.Marks = Unit {0}
-Open s change.Unmarks = Unit {0}
-Open s change.SeesColon = Unit {0}
-Open s change.Names = Unit {0}
 Open s (change.Opens d) = fits s.openers ≡ true
-Open s (change.Closes d) = Unit {0}
 Open s change.BeginsFormat = fits s.openers ≡ true
-Open s change.EndsFormat = Unit {0}
+Open s _ = Unit {0}
 
 abbrev pub Able : Session → Effect → Type 0
 Able s Indents = fits s.levels ≡ true
-Able s Dedents = Unit {0}
-Able s Texts = Unit {0}
-Able s Ends = Unit {0}
 Able s (Other c) = Open s c
+Able s _ = Unit {0}
 
 -- an Indent has bytes of its own before the place
 abbrev pub Deep : Session → Effect → Type 0
 Deep s Indents = length (stacked s.levels) < s.cursor.position.offset
-Deep s Dedents = Unit {0}
-Deep s Texts = Unit {0}
-Deep s Ends = Unit {0}
-Deep s (Other c) = Unit {0}
+Deep s _ = Unit {0}

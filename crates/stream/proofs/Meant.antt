@@ -29,8 +29,8 @@ meant_handing σ = go (answer σ) refl
   where
     go : (r : Result (Option Token) Fault) → answer σ ≡ r → meant (handing σ r) ≡ rest (meant σ)
     go (Ok (Some t)) e = meant_goes σ t e
-    go (Ok None) e = none_left (meant σ) (λ t h. let g = meant_tells σ in let z : ◌≡◌ {A = ℕ} 0 1 = cc in omega arith)
-    go (Err f) e = none_left (meant σ) (λ t h. let g = meant_tells σ in let z : ◌≡◌ {A = ℕ} 0 1 = cc in omega arith)
+    go (Ok None) e = none_left (meant σ) (λ t h. let g = meant_tells σ in cc)
+    go (Err f) e = none_left (meant σ) (λ t h. let g = meant_tells σ in cc)
 
 unless : (b : Bool) → cond b 0 2 ≤ 2
 unless true = omega arith

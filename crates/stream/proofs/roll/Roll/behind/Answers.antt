@@ -16,5 +16,5 @@ returns-else-self-lt-MAX_TOKENS c =
     let s = c.args.self.now in
     record {
       is = sym (none_first (held s.tokens) s.cursor 98305 c.if-self-lt-MAX_TOKENS.false);
-      near = λ h. absurd (let z : ◌≡◌ {A = ℕ} 0 1 = cc in omega arith);
+      near = λ h. cc;
     }
