@@ -1,15 +1,7 @@
-ghost use Rattle.std.specs.Prelude.{◌≡◌, ◌<◌, ◌≤◌, [], ◌∷◌, length, take, set as put_at, if◌then◌else◌, nat_le, slice_index_or};
+ghost use Rattle.std.specs.Prelude.{◌≡◌, ◌<◌, ◌≤◌, [], ◌∷◌, length, take, set as put_at, if◌then◌else◌, nat_le, slice_index_or, Ok, Err};
 ghost use Rattle.stack.specs.Held.{held, stacked, room as room_of, fits, first, behind, at as entry_at};
 
 use crate::record::Stack;
-
-// The element at a place of a table.
-fn item<T: Copy>(slots: &[T], i: usize) -> T
-    requires { i < length slots.now }
-    ensures { result ≡ slice_index_or slots.now i result }
-{
-    slots[i]
-}
 
 // The first elements of a table.
 fn front<T: Copy>(slots: &[T], n: usize) -> &[T]
@@ -47,11 +39,7 @@ impl<'t, T: Copy + Drop> Stack<'t, T> {
     pub fn get(&self, i: usize) -> Option<T>
         ensures { result ≡ entry_at (held self.now) i }
     {
-        if i < self.len() {
-            Some(item(self.slots, i))
-        } else {
-            None
-        }
+        self.entries().get(i).copied()
     }
 
     // All entries, the oldest first.
@@ -65,12 +53,7 @@ impl<'t, T: Copy + Drop> Stack<'t, T> {
     pub fn top(&self) -> Option<T>
         ensures { result ≡ first (stacked self.now) }
     {
-        let n = self.len();
-        if n > 0 {
-            Some(item(self.slots, n - 1))
-        } else {
-            None
-        }
+        self.entries().last().copied()
     }
 
     // Whether no entry more fits.
@@ -80,9 +63,9 @@ impl<'t, T: Copy + Drop> Stack<'t, T> {
         self.slots.len() <= self.len()
     }
 
-    // One entry more; false, and nothing changed, where the table is full.
-    pub fn push(&mut self, x: T) -> bool
-        ensures answer { result ≡ fits self.old }
+    // One entry more; where the table is full the element comes back, and nothing has changed.
+    pub fn push(&mut self, x: T) -> Result<(), T>
+        ensures answer { result ≡ (if fits self.old then Ok tt else Err x) }
         ensures holds { stacked self.new ≡ (if fits self.old then x ∷ stacked self.old else stacked self.old) }
         ensures rooms { room_of self.new ≡ room_of self.old }
     {
@@ -90,9 +73,9 @@ impl<'t, T: Copy + Drop> Stack<'t, T> {
         if n < self.slots.len() {
             store(self.slots, n, x);
             self.count = n + 1;
-            true
+            Ok(())
         } else {
-            false
+            Err(x)
         }
     }
 

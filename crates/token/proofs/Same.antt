@@ -1,6 +1,9 @@
 -- The tests on kinds and causes decide whether they are equal: for callers of `!=`, and of code over every type with `==`.
-use Rattle.std.proofs.Common.{◌≡◌, ◌==◌, List, [], ◌∷◌, get_or, Decides, eq-eqb, sym, refl, ap, ◌∙◌}
+use Rattle.std.proofs.Common.{rules, ◌≡◌, ◌==◌, List, [], ◌∷◌, get_or, Decides, eq-eqb, sym, refl, ap, ◌∙◌}
 use Rattle.std.proofs.lemmas.Bool.{eqb-true}
+use Rattle.std.specs.Bool.{one_answer}
+use Rattle.token.specs.contracts.fault.CausePartialEq.TheImpl as tests-causes
+use Rattle.token.specs.contracts.kinds.TokenKindPartialEq.TheImpl as tests-kinds
 use Rattle.token.specs.Causes.{number_of}
 use Rattle.token.specs.Ordinals.{ordinal, same_kind}
 use Rattle.token.specs.declared.fault.Cause.{Cause}
@@ -111,3 +114,10 @@ same_number_Decides a b = (
   λ e. sym (cause_there a) ∙ ap (λ n. get_or causes n cause.TextTooLong) (eqb-true (number_of a) (number_of b) e) ∙ cause_there b,
   λ e. eq-eqb (number_of a) (number_of b) (ap number_of e),
 )
+
+-- The derived tests answer as these do.
+pub kinds_tested : (a b : TokenKind) → tests-kinds.ghosts.eq a b ≡ same_kind a b
+kinds_tested a b = one_answer (tests-kinds.ghosts.eq a b) (same_kind a b) (search rules, search rules) (same_kind_Decides a b)
+
+pub causes_tested : (a b : Cause) → tests-causes.ghosts.eq a b ≡ (number_of a == number_of b)
+causes_tested a b = one_answer (tests-causes.ghosts.eq a b) (number_of a == number_of b) (search rules, search rules) (same_number_Decides a b)

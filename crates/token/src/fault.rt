@@ -1,12 +1,10 @@
-ghost use Rattle.std.specs.Prelude.{◌≡◌, ◌==◌, Decides};
+ghost use Rattle.std.specs.Prelude.{◌≡◌};
 ghost use Rattle.token.specs.Causes.{number_of};
-ghost use Rattle.std.specs.Cmp.Rules.{comparing};
-ghost use Rattle.std.proofs.Common.{rules};
 
-use crate::place::Position;
+use crate::place::{Position, Token};
 
 // Why a call refuses. The first nine name what the calling program did, those up to `UnterminatedInterpolation` the layout of the text, the rest its strings; `InvalidEscapeSequence` comes of both.
-#[derive(Clone, Copy)]
+#[derive(Clone, Copy, Debug, PartialEq, Eq)]
 pub enum Cause {
     TextTooLong = 1,
     InvalidUtf8,
@@ -38,23 +36,6 @@ pub enum Cause {
     UnicodeEscapeUnterminated,
 }
 
-impl PartialEq for Cause {
-    ghost eq = { λ x y. number_of x == number_of y };
-
-    ghost laws = { Prim.search (comparing, rules) };
-
-    fn eq(&self, other: &Cause) -> bool
-        ensures answer { result ≡ (number_of self.now == number_of other.now) }
-        ensures decides { Decides result (self.now ≡ other.now) }
-    {
-        *self as u8 == *other as u8
-    }
-}
-
-impl Eq for Cause {
-    ghost laws = { Prim.search (comparing, rules) };
-}
-
 // Which part of the library refuses.
 #[derive(Clone, Copy, PartialEq, Eq)]
 pub enum Layer {
@@ -81,5 +62,27 @@ impl Cause {
         ensures alone { (other : Cause) → number_of other ≡ result → other ≡ self }
     {
         self as u32
+    }
+}
+
+impl Fault {
+    // A refusal over a part of the text, with nothing told of a length needed.
+    pub fn new(cause: Cause, layer: Layer, position: Position, length: u32) -> Self
+        ensures { result ≡ record { cause = cause; layer = layer; position = position; length = length; needed = 0 } }
+    {
+        Fault {
+            cause,
+            layer,
+            position,
+            length,
+            needed: 0,
+        }
+    }
+
+    // A refusal over the record of a token, whatever its numbers.
+    pub fn over(cause: Cause, layer: Layer, token: Token) -> Self
+        ensures { result ≡ record { cause = cause; layer = layer; position = token.position; length = token.length; needed = 0 } }
+    {
+        Fault::new(cause, layer, token.position, token.length)
     }
 }

@@ -1,11 +1,8 @@
-ghost use Rattle.std.specs.Prelude.{◌≡◌, Decides};
-ghost use Rattle.token.specs.Ordinals.{ordinal as ordinal_of, same_kind};
+ghost use Rattle.std.specs.Prelude.{◌≡◌};
 ghost use Rattle.token.specs.Strings.{delimiter_of, escapes_in};
-ghost use Rattle.std.specs.Cmp.Rules.{comparing};
-ghost use Rattle.std.proofs.Common.{rules};
 
 // Every kind of token that is handed out.
-#[derive(Clone, Copy)]
+#[derive(Clone, Copy, Debug, PartialEq, Eq)]
 pub enum TokenKind {
     AmpersandAmpersand,
     Asterisk,
@@ -48,33 +45,6 @@ pub enum TokenKind {
     StringToken,
     Text,
     Whitespace,
-}
-
-impl TokenKind {
-    // The place of a kind in the list.
-    fn ordinal(self) -> u8
-        ensures is { result ≡ ordinal_of self }
-        ensures alone { (other : TokenKind) → ordinal_of other ≡ result → other ≡ self }
-    {
-        self as u8
-    }
-}
-
-impl PartialEq for TokenKind {
-    ghost eq = { same_kind };
-
-    ghost laws = { Prim.search (comparing, rules) };
-
-    fn eq(&self, other: &TokenKind) -> bool
-        ensures answer { result ≡ same_kind self.now other.now }
-        ensures decides { Decides result (self.now ≡ other.now) }
-    {
-        self.ordinal() == other.ordinal()
-    }
-}
-
-impl Eq for TokenKind {
-    ghost laws = { Prim.search (comparing, rules) };
 }
 
 // What quotes a string.
