@@ -13,7 +13,7 @@ use Rattle.rules.specs.Laws.{Fits}
 use Rattle.rules.specs.declared.parts.Change.{Change}
 use Rattle.rules.specs.declared.parts.Change.TheVariants as change
 use Rattle.rules.specs.declared.parts.Effect.{Effect}
-use Rattle.rules.specs.declared.parts.Effect.TheVariants.{Indents, Dedents, Texts, Ends, Other}
+use Rattle.rules.specs.declared.parts.Effect.TheVariants.{Indents, Other}
 use Rattle.rules.proofs.Whole.{Whole, rule_whole}
 use Rattle.lexer.specs.Answers.{answer, full, full_by, lacks}
 use Rattle.lexer.proofs.Came.{came, fitting, token_within}

@@ -4,7 +4,7 @@ use Rattle.stack.specs.Held.{fits, stacked}
 use Rattle.rules.specs.declared.parts.Change.{Change}
 use Rattle.rules.specs.declared.parts.Change.TheVariants as change
 use Rattle.rules.specs.declared.parts.Effect.{Effect}
-use Rattle.rules.specs.declared.parts.Effect.TheVariants.{Indents, Dedents, Texts, Ends, Other}
+use Rattle.rules.specs.declared.parts.Effect.TheVariants.{Indents, Other}
 use Rattle.session.specs.declared.record.Session.{Session}
 
 abbrev pub Open : Session → Change → Type 0

@@ -48,14 +48,14 @@ impl<'a, 't> Session<'a, 't> {
         requires { fits self.old.openers ≡ true }
         ensures { state_of self.new ≡ opened (state_of self.old) (d ∷ (inner_of (state_of self.old)).openers) }
     {
-        let _ = self.openers.push(d);
+        self.openers.push(d).unwrap();
     }
 
     // The newest opener is closed.
     fn closes(&mut self)
         ensures { state_of self.new ≡ opened (state_of self.old) (behind (inner_of (state_of self.old)).openers) }
     {
-        let _ = self.openers.pop();
+        self.openers.pop();
     }
 
     // A level is opened.
@@ -68,7 +68,7 @@ impl<'a, 't> Session<'a, 't> {
             offset: t.position.offset,
             length: t.length,
         };
-        let _ = self.levels.push(span);
+        self.levels.push(span).unwrap();
         self.body = self.colon;
     }
 
@@ -76,7 +76,7 @@ impl<'a, 't> Session<'a, 't> {
     fn dedents(&mut self)
         ensures { let σ = state_of self.old in let i = inner_of σ in state_of self.new ≡ stands σ (record { levels = behind σ.standing.levels; body = false; ended = σ.standing.ended; inner = record { openers = i.openers; mark = i.mark; colon = false; formats = i.formats } }) }
     {
-        let _ = self.levels.pop();
+        self.levels.pop();
         self.body = false;
         self.colon = false;
     }

@@ -1,4 +1,4 @@
-use Rattle.std.proofs.Common.{◌≡◌, ℕ, sym, ◌∙◌, arith}
+use Rattle.std.proofs.Common.{sym, ◌∙◌}
 use Rattle.stack.specs.Held.{held}
 use Rattle.stream.proofs.Rolling.{entry_first, none_first}
 use Rattle.stream.proofs.roll.Roll.behind.Goals as goal
