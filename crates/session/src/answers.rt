@@ -30,7 +30,7 @@ fn full<T: Copy + Drop>(table: &Stack<'_, T>, cause: Cause) -> Option<Cause>
 }
 
 impl<'a, 't> Session<'a, 't> {
-    // What is found, at the session's place.
+    // What is found, at the session's place. A match, since `map_err` would need what `Sized` says of a fault once more, at the closure.
     fn placed(&self, found: Found) -> Result<Token, Fault>
         requires { Sized (state_of self.now) found }
         ensures { result ≡ placed_by (state_of self.now) found }
@@ -50,7 +50,7 @@ impl<'a, 't> Session<'a, 't> {
         }
     }
 
-    // The table that a token needs and that is full.
+    // The table that a token needs and that is full. The definitions go over the effects as data, and so does this.
     fn lacks(&self, effect: Effect) -> Option<Cause>
         ensures { result ≡ lacks_of (state_of self.now) effect }
     {

@@ -6,6 +6,7 @@ ghost use Rattle.session.specs.Calls.{SessionGlances, SessionNexts, SessionPlace
 ghost use Rattle.session.specs.Sessions.{state_of};
 
 use crate::record::Session;
+use lines::Reach;
 use source::{Cursor, Source};
 use stack::Stack;
 use token::{Delimiter, Fault, Position, Span, Token};
@@ -30,8 +31,10 @@ impl<'a, 't> Session<'a, 't> {
             colon: false,
             formats: false,
             ended: false,
-            known: 0,
-            outward: false,
+            blank: Reach {
+                length: 0,
+                outdents: false,
+            },
         }
     }
 

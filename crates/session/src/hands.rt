@@ -1,8 +1,7 @@
 ghost use Rattle.std.specs.Prelude.{◌≡◌, ◌<◌, true, false, [], ◌∷◌, length, Some, None, Ok};
 ghost use Rattle.stack.specs.Held.{fits, stacked};
-ghost use Rattle.lexer.specs.Answers.{after, answer as answer_of, behind, changed, seen as seen_of, stood};
+ghost use Rattle.lexer.specs.Answers.{after, answer as answer_of, behind, changed, full_by, lacks, seen as seen_of, stood};
 ghost use Rattle.source.specs.Cursors.{ahead as ahead_of};
-ghost use Rattle.session.specs.Able.{Able, Deep, Open};
 ghost use Rattle.session.specs.Sessions.{inner_of, opened, stands, state_of, turned};
 
 use crate::passing::pass;
@@ -26,9 +25,10 @@ impl<'a, 't> Session<'a, 't> {
         }
     }
 
-    // A small change, by a token that began what lay ahead.
+    // A small change, by a token that began what lay ahead. The definitions go over changes and effects as data, and so do this and `shift`.
+    #[tactic(auto, using(crate::proofs::Handed::roomy))]
     fn change(&mut self, change: Change, t: Token, seen: Seen)
-        requires { Open self.old change }
+        requires { full_by (state_of self.old) change ≡ None }
         ensures { self.old.formats ≡ false → state_of self.new ≡ turned (state_of self.old) (changed change t seen (inner_of (state_of self.old))) }
     {
         match change {
@@ -62,7 +62,7 @@ impl<'a, 't> Session<'a, 't> {
     fn indents(&mut self, t: Token)
         requires room { fits self.old.levels ≡ true }
         requires deep { length (stacked self.old.levels) < self.old.cursor.position.offset }
-        ensures { let σ = state_of self.old in state_of self.new ≡ stands σ (record { levels = record { offset = t.position.offset; length = t.length } ∷ σ.standing.levels; body = σ.standing.inner.colon; ended = σ.standing.ended; inner = σ.standing.inner }) }
+        ensures { let σ = state_of self.old in state_of self.new ≡ stands σ (record σ.standing { levels = record { offset = t.position.offset; length = t.length } ∷ σ.standing.levels; body = (inner_of σ).colon }) }
     {
         let span = Span {
             offset: t.position.offset,
@@ -74,7 +74,7 @@ impl<'a, 't> Session<'a, 't> {
 
     // The innermost level is closed.
     fn dedents(&mut self)
-        ensures { let σ = state_of self.old in let i = inner_of σ in state_of self.new ≡ stands σ (record { levels = behind σ.standing.levels; body = false; ended = σ.standing.ended; inner = record { openers = i.openers; mark = i.mark; colon = false; formats = i.formats } }) }
+        ensures { let σ = state_of self.old in state_of self.new ≡ stands σ (record σ.standing { levels = behind σ.standing.levels; body = false; inner = record σ.standing.inner { colon = false } }) }
     {
         self.levels.pop();
         self.body = false;
@@ -82,9 +82,10 @@ impl<'a, 't> Session<'a, 't> {
     }
 
     // What a token does, but for the place.
+    #[tactic(auto, using(crate::proofs::Handed::roomy))]
     fn shift(&mut self, effect: Effect, t: Token, seen: Seen)
-        requires able { Able self.old effect }
-        requires deep { Deep self.old effect }
+        requires able { lacks (state_of self.old) effect ≡ None }
+        requires deep { effect ≡ Effect.Indents → length (stacked self.old.levels) < self.old.cursor.position.offset }
         ensures { state_of self.new ≡ stands (state_of self.old) (stood effect t seen (state_of self.old).standing) }
     {
         self.formats = false;
@@ -102,8 +103,10 @@ impl<'a, 't> Session<'a, 't> {
         requires { answer_of (state_of self.old) ≡ Ok (Some t) }
         ensures { state_of self.new ≡ after (state_of self.old) t }
     {
+        let n = t.length as usize;
         let seen = self.seen(t);
-        pass(&mut self.cursor, t.length as usize);
+        pass(&mut self.cursor, n);
+        self.blank.length = self.blank.length.saturating_sub(n);
         self.shift(effect(t.kind), t, seen);
     }
 }

@@ -12,6 +12,7 @@ pub(crate) fn pass(cursor: &mut Cursor<'_>, n: usize)
     ensures of { cursor.new.source ≡ cursor.old.source }
     ensures at { cursor.new.position ≡ walk n (ahead cursor.old) cursor.old.position }
 {
+    // No `for`: the cursor is what moves, and it alone knows where a character ends.
     let end = cursor.position().offset as usize + n;
     while (cursor.position().offset as usize) < end {
         cursor.advance();

@@ -13,7 +13,7 @@ fn is_blank(t: Token) -> bool
     t.kind == TokenKind::Whitespace
 }
 
-// The first token to come that is no Whitespace, or the ending. Whitespace before it is taken off.
+// The first token to come that is no Whitespace, or the ending. Whitespace before it is taken off. No `for`: a source is looked at before it moves, which an iterator is not.
 pub fn glance_past<S: TokenSource>(below: &mut S) -> Result<Option<Token>, Fault>
     ensures { Glances (sifted S.TokenSource.meaning) (Shown S.TokenSource.meaning S.TokenSource.stays S.TokenSource.moves) below.old result below.new }
 {
