@@ -1,5 +1,5 @@
 -- The rows of the grammar and the encodings of Unicode scalar values are the same bytes.
-use Rattle.std.proofs.Common.{◌≡◌, ℕ, ◌+◌, ◌-◌, ◌*◌, ◌^◌, ◌<◌, ◌≤◌, true, cond, ◌&&◌, eqb, leb, ◌⊎◌, List, [], ◌∷◌, ◌++◌, length, get_or, take, drop, IsUtf8, sym, refl, ap, ◌∙◌, subst, inl, inr, ⊎_elim, arith}
+use Rattle.std.proofs.Common.{◌≡◌, IfSome, Some, None, zero, suc, ℕ, ◌+◌, ◌-◌, ◌*◌, ◌^◌, ◌<◌, ◌≤◌, true, cond, ◌&&◌, eqb, leb, ◌⊎◌, List, [], ◌∷◌, ◌++◌, length, get_or, take, drop, IsUtf8, sym, refl, ap, ◌∙◌, subst, inl, inr, ⊎_elim, arith}
 use lib.Count.{leading_unique}
 use lib.Utf8.{scalar, scalars, encode, encodes, scalar_cases}
 use Rattle.std.proofs.str.Laws.{Scalar, Shape, of1, of2, of3, of4, shape, Follows, order, one, two, three}
@@ -8,7 +8,7 @@ use Rattle.std.proofs.lemmas.List.{append_assoc, get_or_append_left, length-take
 use Rattle.std.proofs.lemmas.Bool.{and_parts, leb-true, false≢true, cond-false, cond_both, ne_eqb}
 use Rattle.std.proofs.lemmas.Str.{length-encode, len_utf8_bounds}
 use Rattle.std.proofs.lemmas.Bool.Decides.{nat_tests}
-use Rattle.utf8.specs.Utf8.{Range, ◌to◌, inside, tail, rows, begins, among, character, leading_ones, shown_length}
+use Rattle.utf8.specs.Utf8.{Range, ◌to◌, inside, tail, rows, begins, among, character, counted, leading_ones, shown_length}
 
 -- the bytes are one of each range, in order
 abbrev Each : List Range → List ℕ → Type 0
@@ -219,3 +219,16 @@ shown_character x r h =
         let long : 0 < length (encode c) = omega (arith, length-encode c, (len_utf8_bounds c).0) in
         let first : x ≡ get_or (encode c) 0 0 = ap (λ l. get_or l 0 0) whole ∙ get_or_append_left (encode c) (encodes cs ++ drop n (x ∷ r)) 0 0 long in
         ap shown_length first ∙ shown_encode c p.0 ∙ sym (ap character whole ∙ character_encode c (encodes cs ++ drop n (x ∷ r)) p.0)
+
+-- a length that there is is not 0
+pub counted_within : (n m : ℕ) → n ≤ m → IfSome (counted n) (λ k. (0 < k) × (k ≤ m))
+counted_within zero m h = tt
+counted_within (suc n) m h = (omega arith, h)
+
+pub counted_some : (n m : ℕ) → Some n ≡ counted m → n ≡ m
+counted_some n zero e = cc
+counted_some n (suc m) e = cc
+
+pub counted_none : (m : ℕ) → None ≡ counted m → m ≡ 0
+counted_none zero e = refl
+counted_none (suc m) e = cc

@@ -63,6 +63,11 @@ among (r ∷ rs) bs = cond (begins r bs) (length r) (among rs bs)
 unfoldable pub character : List ℕ → ℕ
 character bs = among rows bs
 
+-- a length, if there is one: 0 tells that there is none
+abbrev pub counted : ℕ → Option ℕ
+counted zero = None
+counted (suc n) = Some (suc n)
+
 -- the place of the first byte at which a character should begin and none does: `at` is the place of the bytes, `owed` of which are still of a character that began before
 abbrev pub bad_from : (at owed : ℕ) → List ℕ → Option ℕ
 bad_from at owed [] = None

@@ -9,15 +9,12 @@ pub fn first_bad(bytes: &[u8]) -> Option<usize>
     ensures is { result ≡ first_bad_offset bytes.now }
     ensures within { IfSome result (λ i. i < length bytes.now) }
 {
+    // A step passes a character of one to four bytes, so no `for` counts the places.
     let mut at = 0;
-    while at < bytes.len() {
-        let n = character(&bytes[at..]);
-        if n == 0 {
-            return Some(at);
-        }
+    while let Some(n) = character(&bytes[at..]) {
         at += n;
     }
-    None
+    (at < bytes.len()).then_some(at)
 }
 
 // The bytes as text, or the place of the first bad sequence.

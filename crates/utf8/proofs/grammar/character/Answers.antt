@@ -1,11 +1,13 @@
-use Rattle.std.proofs.Common.{◌≤◌, length, sym, subst}
+use Rattle.std.proofs.Common.{◌<◌, ◌≤◌, length, IfSome, sym, subst}
 use Rattle.utf8.specs.Utf8.{character}
-use Rattle.utf8.proofs.Rows.{character_begun}
+use Rattle.utf8.proofs.Rows.{character_begun, counted_within}
 use Rattle.utf8.proofs.grammar.character.Goals as goal
 
 pub returns : goal.returns
 unfolding character
-returns c = record {
-  is = c.row.ensures;
-  within = subst (λ n. n ≤ length c.args.bytes.now) (sym c.row.ensures) (character_begun c.args.bytes.now).within;
-}
+returns c =
+    let bs = c.args.bytes.now in
+    record {
+      is = c.row.ensures;
+      within = subst (λ r. IfSome r (λ n. (0 < n) × (n ≤ length bs))) (sym c.row.ensures) (counted_within (character bs) (length bs) (character_begun bs).within);
+    }

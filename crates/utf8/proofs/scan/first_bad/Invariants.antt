@@ -3,8 +3,8 @@ use Rattle.utf8.specs.Utf8.{bad_from, first_bad_offset}
 use Rattle.utf8.proofs.scan.first_bad.Given as goal
 
 -- what is left gives the answer
-abbrev pub invariant-loop-at : goal.invariant-loop-at
-invariant-loop-at l = (l.at ≤ length l.bytes) × (bad_from l.at 0 (drop l.at l.bytes) ≡ first_bad_offset l.bytes)
+abbrev pub invariant-loop-n : goal.invariant-loop-n
+invariant-loop-n l = (l.at ≤ length l.bytes) × (bad_from l.at 0 (drop l.at l.bytes) ≡ first_bad_offset l.bytes)
 
-abbrev pub decreases-loop-at : goal.decreases-loop-at
-decreases-loop-at l = length l.bytes - l.at
+abbrev pub decreases-loop-n : goal.decreases-loop-n
+decreases-loop-n l = length l.bytes - l.at
