@@ -1,7 +1,5 @@
-ghost use Rattle.std.specs.Prelude.{◌≡◌, ◌≤◌, true, length, IfSome, Some, None, MatchOption};
-ghost use Rattle.scan.specs.Prefix.{begins};
-ghost use Rattle.token.specs.Strings.{delimiter_of};
-ghost use Rattle.text.specs.Quotes.{closed_by, first_of, literal as literal_of, quotes, stripped};
+ghost use Rattle.std.specs.Prelude.{◌≡◌, ◌≤◌, length, Some, None, MatchOption};
+ghost use Rattle.text.specs.Quotes.{first_of, literal as literal_of, quotes};
 
 use crate::literal::Literal;
 use scan::starts;

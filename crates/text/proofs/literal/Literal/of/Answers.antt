@@ -1,4 +1,4 @@
-use Rattle.std.proofs.Common.{◌++◌, sym, ap, ◌∙◌}
+use Rattle.std.proofs.Common.{◌++◌, sym, ap, ◌∙◌, rules}
 use Rattle.text.specs.Quotes.{first_of, quotes}
 use Rattle.text.proofs.Stripped.{no_quote, not_opened, not_closed, stands_between}
 use Rattle.text.proofs.literal.Literal.of.Goals as goal
@@ -24,4 +24,5 @@ returns c =
     let q = c.in_ok-kind.ensures ∙ ap (first_of quotes) c.as_bytes.ensures.value in
     let s = c.in_ok-strip_prefix.ensures.cases in
     let t = c.in_ok-inner.ensures.cases in
-    stands_between c.args.lexeme.now d c.in_ok-kind.kind q c.delimiter-delimiter.ensures _ _ (s.1.1 ∙ ap (λ l. d ++ l) (sym s.2)) (t.1.1 ∙ ap (λ l. l ++ d) (sym t.2))
+    let e = stands_between c.args.lexeme.now d c.in_ok-kind.kind q c.delimiter-delimiter.ensures _ _ (s.1.1 ∙ ap (λ l. d ++ l) (sym s.2)) (t.1.1 ∙ ap (λ l. l ++ d) (sym t.2)) in
+    search rules
