@@ -24,7 +24,7 @@ fn put(c: char, at: usize, out: &mut [u8]) -> usize
     end
 }
 
-// What a character gives.
+// What a character gives. The machine, the place and the buffer stay apart, here and in `write`: a struct of them would be moved on in place, so that each promise named it before and after for what one answered number says.
 fn place(machine: &mut Unescape, c: char, at: usize, out: &mut [u8]) -> Result<usize, Escape>
     requires { at < 2 ^ 32 }
     ensures gives { MatchResult result (λ n. summed at (feed machine.old.state (c ∷ [])) ≡ Ok (machine.new.state, n)) (λ e. summed at (feed machine.old.state (c ∷ [])) ≡ Err e) }
