@@ -4,8 +4,6 @@
 ghost use Rattle.examples.specs.Examples.{ExamplesHold};
 
 // The worked examples hold of the definitions, every token with its place.
-pub fn worked_examples_hold() -> u8
+pub fn worked_examples_hold()
     ensures { ExamplesHold }
-{
-    0
-}
+{}

@@ -36,13 +36,11 @@ shown left r e = subst (λ q. Shows q left) (sym e) (shown_by left.tokens left.e
 
 pub next_comes : (p : Position) (left : Meaning) (r : Result (Option Token) Fault) → r ≡ tell left → Comes p left (by_next r)
 next_comes p left (Ok (Some t)) e = shown left (Ok (Some t)) e
-next_comes p left (Ok None) e = shown left (Ok None) e
-next_comes p left (Err f) e = shown left (Err f) e
+next_comes p left r e = shown left r e
 
 pub glance_comes : (p : Position) (left : Meaning) (r : Result (Option Token) Fault) → r ≡ tell left → Comes p left (by_glance r)
 glance_comes p left (Ok (Some t)) e = shown left (Ok (Some t)) e
-glance_comes p left (Ok None) e = shown left (Ok None) e
-glance_comes p left (Err f) e = shown left (Err f) e
+glance_comes p left r e = shown left r e
 
 -- a call on texts refuses by the layer text
 abbrev Own : {A : Type 0} → Told A → Type 0

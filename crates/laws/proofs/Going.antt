@@ -51,8 +51,7 @@ goes_next m n (Err f) e l = still m n (l ∙ rest_none m (next_comes origin m (E
 
 goes_glance : (m n : Meaning) (r : Result (Option Token) Fault) → n ≡ m → Goes m (handed (by_glance r)) n
 goes_glance m n (Ok (Some t)) l = still m n l
-goes_glance m n (Ok None) l = still m n l
-goes_glance m n (Err f) l = still m n l
+goes_glance m n _ l = still m n l
 
 -- calls on any source of tokens
 module _ {A : Type 0} (meaning : A → Meaning) (stays moves : A → A → Type 0) where
@@ -93,13 +92,11 @@ layer_law meaning stays moves s ts a r =
 -- calls on a session
 next_hands : (σ τ : State) (r : Result (Option Token) Fault) → r ≡ answer σ → τ ≡ handing σ r → Hands σ (handed (by_next r)) τ
 next_hands σ τ (Ok (Some t)) e l = subst (Hands σ (t ∷ [])) (sym l) (hands_one σ t (sym e))
-next_hands σ τ (Ok None) e l = subst (Hands σ []) (sym l) done
-next_hands σ τ (Err f) e l = subst (Hands σ []) (sym l) done
+next_hands σ τ _ e l = subst (Hands σ []) (sym l) done
 
 glance_hands : (σ τ : State) (r : Result (Option Token) Fault) → τ ≡ σ → Hands σ (handed (by_glance r)) τ
 glance_hands σ τ (Ok (Some t)) l = subst (Hands σ []) (sym l) done
-glance_hands σ τ (Ok None) l = subst (Hands σ []) (sym l) done
-glance_hands σ τ (Err f) l = subst (Hands σ []) (sym l) done
+glance_hands σ τ _ l = subst (Hands σ []) (sym l) done
 
 literal_hands : (a b : Session) (text buffer after : List ℕ) (r : Result (Token × ℕ) Fault) → Literals session_means SessionStays SessionMoves text buffer a r b after → Hands (state_of a) (handed (by_literal r)) (state_of b)
 literal_hands a b text buffer after (Ok p) h =

@@ -13,10 +13,8 @@ use Rattle.scan.specs.Prefix.{begins}
 use Rattle.source.specs.Places.{walk}
 use Rattle.rules.specs.Lines.{same}
 use Rattle.rules.specs.Strings.{kind_of}
-use Rattle.rules.specs.declared.found.Found.{Found}
-use Rattle.rules.specs.declared.found.Found.TheVariants.{Lexed, Fails, Unclosed}
-use Rattle.rules.specs.declared.found.Layout.{Layout}
-use Rattle.rules.specs.declared.found.Layout.TheVariants as layout
+use Rattle.rules.specs.Found.{Found, Lexed, Fails, Unclosed}
+use Rattle.rules.specs.Causes.{cause_of_layout}
 use Rattle.lexer.specs.declared.seen.Seen.{Seen}
 use Rattle.lexer.specs.States.{Inner, Standing, State, ahead, found}
 use Rattle.rules.specs.Effects.{effect_of}
@@ -24,21 +22,6 @@ use Rattle.rules.specs.declared.parts.Change.{Change}
 use Rattle.rules.specs.declared.parts.Change.TheVariants.{Nothing, Marks, Unmarks, SeesColon, Names, Opens, Closes, BeginsFormat, EndsFormat}
 use Rattle.rules.specs.declared.parts.Effect.{Effect}
 use Rattle.rules.specs.declared.parts.Effect.TheVariants.{Indents, Dedents, Texts, Ends, Other}
-
--- the causes of the layout
-abbrev pub cause_of_layout : Layout → Cause
-cause_of_layout layout.MixedLeadingWhitespace = cause.MixedLeadingWhitespace
-cause_of_layout layout.InconsistentLeadingWhitespace = cause.InconsistentLeadingWhitespace
-cause_of_layout layout.UnknownStartOfToken = cause.UnknownStartOfToken
-cause_of_layout layout.UnexpectedCharacter = cause.UnexpectedCharacter
-cause_of_layout layout.UnexpectedEndOfToken = cause.UnexpectedEndOfToken
-cause_of_layout layout.MismatchedClosingDelimiter = cause.MismatchedClosingDelimiter
-cause_of_layout layout.UnexpectedClosingDelimiter = cause.UnexpectedClosingDelimiter
-cause_of_layout layout.InvalidEscapeSequence = cause.InvalidEscapeSequence
-cause_of_layout layout.EscapeEndOfFile = cause.EscapeEndOfFile
-cause_of_layout layout.UnpairedCarriageReturn = cause.UnpairedCarriageReturn
-cause_of_layout layout.UnterminatedString = cause.UnterminatedString
-cause_of_layout layout.UnterminatedBacktick = cause.UnterminatedBacktick
 
 -- a fault of the session, at a place and of a length
 abbrev pub fault_at : Cause → Position → ℕ → Fault
@@ -59,23 +42,15 @@ abbrev pub full : {A : Type 0} → List A → ℕ → Cause → Option Cause
 full xs room c = cond (nat_le room (length xs)) (Some c) None
 
 abbrev pub full_by : State → Change → Option Cause
-full_by σ Nothing = None
-full_by σ Marks = None
-full_by σ Unmarks = None
-full_by σ SeesColon = None
-full_by σ Names = None
 full_by σ (Opens d) = full σ.standing.inner.openers σ.rooms.openers cause.OpenersFull
-full_by σ (Closes d) = None
 full_by σ BeginsFormat = full σ.standing.inner.openers σ.rooms.openers cause.OpenersFull
-full_by σ EndsFormat = None
+full_by σ _ = None
 
 -- the table that a token needs and that is full
 abbrev pub lacks : State → Effect → Option Cause
 lacks σ Indents = full σ.standing.levels σ.rooms.levels cause.LevelsFull
-lacks σ Dedents = None
-lacks σ Texts = None
-lacks σ Ends = None
 lacks σ (Other c) = full_by σ c
+lacks σ _ = None
 
 abbrev pub roomed : Token → Option Cause → Result (Option Token) Fault
 roomed t None = Ok (Some t)
@@ -104,39 +79,28 @@ seen t s = record { quote = quote_of s; f = same (take t.length s) (102 ∷ []) 
 
 -- what a small change leaves
 abbrev pub changed : Change → Token → Seen → Inner → Inner
-changed Nothing t s i = record { openers = i.openers; mark = i.mark; colon = i.colon; formats = false }
-changed Marks t s i = record { openers = i.openers; mark = Some t; colon = i.colon; formats = false }
-changed Unmarks t s i = record { openers = i.openers; mark = None; colon = i.colon; formats = false }
-changed SeesColon t s i = record { openers = i.openers; mark = i.mark; colon = true; formats = false }
-changed Names t s i = record { openers = i.openers; mark = i.mark; colon = i.colon; formats = s.f }
-changed (Opens d) t s i = record { openers = d ∷ i.openers; mark = i.mark; colon = i.colon; formats = false }
-changed (Closes d) t s i = record { openers = behind i.openers; mark = i.mark; colon = i.colon; formats = false }
-changed BeginsFormat t s i = record { openers = FormatString s.quote ∷ i.openers; mark = i.mark; colon = i.colon; formats = false }
-changed EndsFormat t s i = record { openers = behind i.openers; mark = i.mark; colon = i.colon; formats = false }
+changed Nothing t s i = record i { formats = false }
+changed Marks t s i = record i { mark = Some t; formats = false }
+changed Unmarks t s i = record i { mark = None; formats = false }
+changed SeesColon t s i = record i { colon = true; formats = false }
+changed Names t s i = record i { formats = s.f }
+changed (Opens d) t s i = record i { openers = d ∷ i.openers; formats = false }
+changed (Closes d) t s i = record i { openers = behind i.openers; formats = false }
+changed BeginsFormat t s i = record i { openers = FormatString s.quote ∷ i.openers; formats = false }
+changed EndsFormat t s i = record i { openers = behind i.openers; formats = false }
 
 -- what a token leaves
 abbrev pub stood : Effect → Token → Seen → Standing → Standing
-stood Indents t s w = record {
+stood Indents t s w = record w {
   levels = record { offset = t.position.offset; length = t.length } ∷ w.levels;
   body = w.inner.colon;
-  ended = w.ended;
   inner = changed Nothing t s w.inner;
 }
-stood Dedents t s w = record {
-  levels = behind w.levels;
-  body = false;
-  ended = w.ended;
-  inner = record { openers = w.inner.openers; mark = w.inner.mark; colon = false; formats = false };
-}
-stood Texts t s w = record { levels = w.levels; body = w.body; ended = w.ended; inner = changed Nothing t s w.inner }
-stood Ends t s w = record { levels = w.levels; body = w.body; ended = true; inner = changed Nothing t s w.inner }
-stood (Other c) t s w = record { levels = w.levels; body = w.body; ended = w.ended; inner = changed c t s w.inner }
+stood Dedents t s w = record w { levels = behind w.levels; body = false; inner = record w.inner { colon = false; formats = false } }
+stood Texts t s w = record w { inner = changed Nothing t s w.inner }
+stood Ends t s w = record w { ended = true; inner = changed Nothing t s w.inner }
+stood (Other c) t s w = record w { inner = changed c t s w.inner }
 
 -- the session once a token was handed out
 abbrev pub after : State → Token → State
-after σ t = record {
-  text = σ.text;
-  rooms = σ.rooms;
-  place = walk t.length (ahead σ) σ.place;
-  standing = stood (effect_of t.kind) t (seen t (ahead σ)) σ.standing;
-}
+after σ t = record σ { place = walk t.length (ahead σ) σ.place; standing = stood (effect_of t.kind) t (seen t (ahead σ)) σ.standing }

@@ -6,7 +6,7 @@ use Rattle.token.specs.declared.place.Position.{Position}
 use Rattle.token.specs.declared.place.Span.{Span}
 use Rattle.token.specs.declared.place.Token.{Token}
 use Rattle.rules.specs.declared.found.Around.{Around}
-use Rattle.rules.specs.declared.found.Found.{Found}
+use Rattle.rules.specs.Found.{Found}
 use Rattle.rules.specs.Lines.{rule}
 
 -- the open delimiters, newest first; the open mark of a body; whether a Colon came since the last Dedent or the opening; whether the token just before is the Identifier f

@@ -1,3 +1,4 @@
 pub mod Runs
 pub mod Texts
 pub mod Settled
+pub mod Sounds

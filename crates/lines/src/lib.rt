@@ -8,12 +8,10 @@ mod order;
 mod reached;
 mod reaches;
 mod reads;
-mod remembered;
 mod starts;
 
 pub use ahead::Ahead;
 pub use levels::Levels;
-pub use order::rule;
+pub use order::{rule, rule_from};
 pub use reached::Reach;
 pub use reaches::blank_reach;
-pub use remembered::rule_from;

@@ -3,11 +3,13 @@ ghost use Rattle.rules.specs.Laws.{Sound};
 ghost use Rattle.rules.specs.Lines.{body as body_of, finish as finish_of, onward as onward_of, rule as rule_of, space as space_of, stop as stop_of, told as told_of};
 ghost use Rattle.lines.specs.Levels.{texts_of};
 
+use crate::ahead::Ahead;
 use crate::levels::Levels;
-use crate::starts::start;
-use rules::{Around, Found, Start};
+use crate::reached::Reach;
+use crate::starts::Here;
+use rules::{Around, Found, Miss, Start};
 use scan::starts;
-use table::{OverText, general, passed};
+use table::{OverText, general, line_end, passed};
 use token::TokenKind;
 
 // Whitespace, if not empty.
@@ -17,32 +19,19 @@ fn space(n: usize) -> Option<Found>
     if n == 0 {
         None
     } else {
-        Some(Found::Lexed(TokenKind::Whitespace, n))
+        Some(Ok((TokenKind::Whitespace, n)))
     }
 }
 
 // What the start of a line hands out.
-pub(crate) fn told(start: Start) -> Option<Found>
+fn told(start: Start) -> Option<Found>
     ensures { result ≡ told_of start }
 {
     match start {
         Start::Still(n) | Start::Aligned(n) => space(n),
-        Start::Outward => Some(Found::Lexed(TokenKind::Dedent, 0)),
-        Start::Inward(n) => Some(Found::Lexed(TokenKind::Indent, n)),
-        Start::Wrong(cause, n) => Some(Found::Fails(cause, 0, n)),
-    }
-}
-
-// The end of the text.
-fn finish(around: Around, levels: Levels) -> Found
-    ensures { result ≡ finish_of around (texts_of levels.entry) }
-{
-    if around.marked {
-        Found::Unclosed
-    } else if levels.indented() {
-        Found::Lexed(TokenKind::Dedent, 0)
-    } else {
-        Found::Lexed(TokenKind::Eof, 0)
+        Start::Outward => Some(Ok((TokenKind::Dedent, 0))),
+        Start::Inward(n) => Some(Ok((TokenKind::Indent, n))),
+        Start::Wrong(cause, n) => Some(Err(Miss::Fails(cause, 0, n))),
     }
 }
 
@@ -50,12 +39,9 @@ fn finish(around: Around, levels: Levels) -> Found
 fn stop(ahead: &[u8]) -> Found
     ensures { result ≡ stop_of ahead.now }
 {
-    if starts(ahead, b"\n") {
-        Found::Lexed(TokenKind::Eol, 1)
-    } else if starts(ahead, b"\r\n") {
-        Found::Lexed(TokenKind::Eol, 2)
-    } else {
-        Found::Lexed(TokenKind::InterpolationStart, 2)
+    match line_end(ahead) {
+        Some(n) => Ok((TokenKind::Eol, n)),
+        None => Ok((TokenKind::InterpolationStart, 2)),
     }
 }
 
@@ -67,35 +53,51 @@ fn body(ahead: &[u8]) -> Found
     if n == 0 {
         stop(ahead)
     } else {
-        Found::Lexed(TokenKind::Text, n)
+        Ok((TokenKind::Text, n))
     }
 }
 
-// What comes where no line starts, or where its start hands out nothing.
-pub(crate) fn onward(around: Around, levels: Levels, ahead: &[u8]) -> Found
-    ensures { result ≡ onward_of around (texts_of levels.entry) ahead.now }
-{
-    if ahead.is_empty() {
-        finish(around, levels)
-    } else if around.marked && around.newest.is_none() && starts(ahead, b"}}") {
-        Found::Lexed(TokenKind::InterpolationEnd, 2)
-    } else if around.body && !around.marked {
-        body(ahead)
-    } else {
-        general(around, ahead)
-    }
-}
-
-// What is found: at column 0 the start of a line is tried first.
-fn tried(fresh: bool, around: Around, levels: Levels, ahead: &[u8]) -> Found
-    ensures { result ≡ rule_of fresh around (texts_of levels.entry) ahead.now }
-{
-    if fresh {
-        if let Some(found) = told(start(around, levels, ahead)) {
-            return found;
+impl<'a> Here<'a> {
+    // The end of the text.
+    fn finish(self) -> Found
+        ensures { result ≡ finish_of self.entry.around (texts_of self.entry.levels) }
+    {
+        if self.around.marked {
+            Err(Miss::Unclosed)
+        } else if self.levels.indented() {
+            Ok((TokenKind::Dedent, 0))
+        } else {
+            Ok((TokenKind::Eof, 0))
         }
     }
-    onward(around, levels, ahead)
+
+    // What comes where no line starts, or where its start hands out nothing.
+    fn onward(self) -> Found
+        ensures { result ≡ onward_of self.entry.around (texts_of self.entry.levels) self.entry.ahead.bytes.now }
+    {
+        let ahead = self.ahead.bytes;
+        if ahead.is_empty() {
+            self.finish()
+        } else if self.around.marked && self.around.newest.is_none() && starts(ahead, b"}}") {
+            Ok((TokenKind::InterpolationEnd, 2))
+        } else if self.around.body && !self.around.marked {
+            body(ahead)
+        } else {
+            general(self.around, ahead)
+        }
+    }
+
+    // What is found: at column 0 the start of a line is tried first.
+    fn tried(self, fresh: bool) -> Found
+        ensures { result ≡ rule_of fresh self.entry.around (texts_of self.entry.levels) self.entry.ahead.bytes.now }
+    {
+        if fresh {
+            if let Some(found) = told(self.start()) {
+                return found;
+            }
+        }
+        self.onward()
+    }
 }
 
 // What the rules find, which keeps their law.
@@ -103,5 +105,25 @@ pub fn rule(fresh: bool, around: Around, levels: Levels, ahead: &[u8]) -> Found
     ensures is { result ≡ rule_of fresh around (texts_of levels.entry) ahead.now }
     ensures sound { Sound fresh around (texts_of levels.entry) ahead.now result }
 {
-    tried(fresh, around, levels, ahead)
+    let ahead = Ahead {
+        bytes: ahead,
+        blank: Reach {
+            length: 0,
+            outdents: false,
+        },
+    };
+    rule_from(fresh, around, levels, ahead)
+}
+
+// The same, where something is known of the blank-line scan, so that less is scanned.
+pub fn rule_from(fresh: bool, around: Around, levels: Levels, ahead: Ahead) -> Found
+    ensures is { result ≡ rule_of fresh around (texts_of levels.entry) ahead.entry.bytes.now }
+    ensures sound { Sound fresh around (texts_of levels.entry) ahead.entry.bytes.now result }
+{
+    let here = Here {
+        around,
+        levels,
+        ahead,
+    };
+    here.tried(fresh)
 }

@@ -4,20 +4,14 @@ ghost use Rattle.lines.specs.Reaches.{reach_of};
 
 use crate::ahead::Ahead;
 use crate::reached::Reach;
-use crate::reads::outdents;
 use scan::{White, leading};
 
-impl<'a> Ahead<'a> {
-    // Whether the white space that comes first ends in a line feed, and something follows it; scanned only where it is not known.
-    pub(crate) fn leads_outward(self) -> bool
-        ensures { result ≡ outdents_of false self.entry.bytes.now }
-    {
-        if self.known > 0 {
-            self.outdents
-        } else {
-            outdents(self.bytes)
-        }
-    }
+// Whether the white space that comes first ends in a line feed, and something follows it.
+fn outdents(ahead: &[u8]) -> bool
+    ensures { result ≡ outdents_of false ahead.now }
+{
+    let (blank, behind) = ahead.split_at(leading::<White>(ahead));
+    blank.ends_with(b"\n") && !behind.is_empty()
 }
 
 // Scans the white space that comes first, once for all places in it.
@@ -27,5 +21,18 @@ pub fn blank_reach(ahead: &[u8]) -> Reach
     Reach {
         length: leading::<White>(ahead),
         outdents: outdents(ahead),
+    }
+}
+
+impl<'a> Ahead<'a> {
+    // Whether the white space that comes first ends in a line feed, and something follows it; scanned only where it is not known.
+    pub(crate) fn leads_outward(self) -> bool
+        ensures { result ≡ outdents_of false self.entry.bytes.now }
+    {
+        if self.blank.length > 0 {
+            self.blank.outdents
+        } else {
+            outdents(self.bytes)
+        }
     }
 }

@@ -1,58 +1,39 @@
-ghost use Rattle.std.specs.Prelude.{◌≡◌, false, ◌&&◌};
-ghost use Rattle.rules.specs.Lines.{among as among_of, has as has_of, indented as indented_of, innermost as innermost_of, mixed as mixed_of, outdents as outdents_of, same as same_of};
+ghost use Rattle.std.specs.Prelude.{◌≡◌, ◌&&◌, reverse, take};
+ghost use Rattle.std.specs.List.{list_any};
+ghost use Rattle.rules.specs.Lines.{among as among_of, indented as indented_of, innermost as innermost_of, mixed as mixed_of, same as same_of};
 ghost use Rattle.lines.specs.Levels.{part as part_of, texts_of};
 
 use crate::levels::Levels;
-use scan::{ByteClass, White, starts};
 use token::Span;
+
+// The first bytes, as many as are wanted, or all.
+pub(crate) fn first(bytes: &[u8], wanted: usize) -> &[u8]
+    ensures { result.now ≡ take wanted bytes.now }
+{
+    &bytes[..wanted.min(bytes.len())]
+}
 
 // The part of a text over which a span stands.
 fn part(text: &[u8], span: Span) -> &[u8]
     ensures { result.now ≡ part_of text.now span }
 {
-    let from = (span.offset as usize).min(text.len());
-    let end = from + (span.length as usize).min(text.len() - from);
-    &text[from..end]
+    let (_, rest) = text.split_at((span.offset as usize).min(text.len()));
+    first(rest, span.length as usize)
 }
 
-// Whether two rows of bytes are equal: each begins with the other.
+// Whether two rows of bytes are equal.
+#[tactic(auto, using(crate::proofs::Runs::same_pointwise))]
 pub(crate) fn same(a: &[u8], b: &[u8]) -> bool
     ensures { result ≡ same_of a.now b.now }
 {
-    starts(b, a) && starts(a, b)
-}
-
-// Whether a byte is among others.
-fn has(b: u8, bytes: &[u8]) -> bool
-    ensures { result ≡ has_of b bytes.now }
-{
-    for c in bytes {
-        if *c == b {
-            return true;
-        }
-    }
-    false
+    a == b
 }
 
 // Whether there are both a space and a tab.
 pub(crate) fn mixed(run: &[u8]) -> bool
     ensures { result ≡ mixed_of run.now }
 {
-    has(b' ', run) && has(b'\t', run)
-}
-
-// Whether the white space that comes first ends in a line feed, and something follows it.
-pub(crate) fn outdents(ahead: &[u8]) -> bool
-    ensures { result ≡ outdents_of false ahead.now }
-{
-    let mut fed = false;
-    for c in ahead {
-        if !White::holds(*c) {
-            return fed;
-        }
-        fed = *c == b'\n';
-    }
-    false
+    run.contains(&b' ') && run.contains(&b'\t')
 }
 
 impl<'a> Levels<'a> {
@@ -67,23 +48,26 @@ impl<'a> Levels<'a> {
     pub(crate) fn innermost(self) -> &'a [u8]
         ensures { result.now ≡ innermost_of (texts_of self.entry) }
     {
-        if self.spans.is_empty() {
-            return &[];
+        match self.spans.last() {
+            Some(span) => part(self.text, *span),
+            None => &[],
         }
-        part(self.text, self.spans[self.spans.len() - 1])
+    }
+
+    // Whether a run stands where one of the open Indents does, in the library's words.
+    fn any_is(self, run: &[u8]) -> bool
+        ensures { result ≡ list_any (λ span. same_of run.now (part_of self.entry.text.now span)) (reverse self.entry.spans.now) }
+    {
+        self.spans
+            .iter()
+            .rev()
+            .any(|span| same(run, part(self.text, *span)))
     }
 
     // Whether a run is the text of an open Indent.
     pub(crate) fn among(self, run: &[u8]) -> bool
         ensures { result ≡ among_of run.now (texts_of self.entry) }
     {
-        let mut left = self.spans.len();
-        while left > 0 {
-            left -= 1;
-            if same(run, part(self.text, self.spans[left])) {
-                return true;
-            }
-        }
-        false
+        self.any_is(run)
     }
 }

@@ -1,81 +1,85 @@
-ghost use Rattle.std.specs.Prelude.{◌≡◌, length, take};
+ghost use Rattle.std.specs.Prelude.{◌≡◌, length};
 ghost use Rattle.rules.specs.Lines.{line_of_blanks, deeper as deeper_of, indentation as indentation_of, start as start_at};
 ghost use Rattle.rules.specs.Scans.{is_line_over};
 ghost use Rattle.lines.specs.Levels.{texts_of};
 
+use crate::ahead::Ahead;
 use crate::levels::Levels;
-use crate::reads::{mixed, outdents, same};
+use crate::reads::{first, mixed, same};
 use rules::{Around, Layout, Start};
 use scan::{Gap, leading, starts};
 use table::{at_line_end, nested};
 
+// A place in a text: what is open there, and what lies ahead.
+#[derive(Clone, Copy)]
+pub(crate) struct Here<'a> {
+    pub(crate) around: Around,
+    pub(crate) levels: Levels<'a>,
+    pub(crate) ahead: Ahead<'a>,
+}
+
 // Whether a line end comes first, or nothing does.
-pub(crate) fn line_over(ahead: &[u8]) -> bool
+fn line_over(ahead: &[u8]) -> bool
     ensures { result ≡ is_line_over ahead.now }
 {
     at_line_end(ahead) || ahead.is_empty()
 }
 
-// A line of blanks.
-fn blank_line(levels: Levels, n: usize, ahead: &[u8]) -> Start
-    ensures { result ≡ line_of_blanks (texts_of levels.entry) n ahead.now }
+// A run of blanks that is neither empty nor an open Indent, against the innermost one.
+fn deeper(body: bool, innermost: &[u8], run: &[u8]) -> Start
+    ensures { result ≡ deeper_of body innermost.now (length run.now) run.now }
 {
-    if levels.indented() && outdents(ahead) {
-        Start::Outward
-    } else {
-        Start::Still(n)
-    }
-}
-
-// The first bytes of a run, as many as another has, or all.
-fn beginning<'a>(run: &'a [u8], other: &[u8]) -> &'a [u8]
-    ensures { result.now ≡ take (length other.now) run.now }
-{
-    &run[0..other.len().min(run.len())]
-}
-
-// A run of `n` blanks that is neither empty nor an open Indent, against the innermost one.
-fn deeper(body: bool, innermost: &[u8], n: usize, run: &[u8]) -> Start
-    ensures { result ≡ deeper_of body innermost.now n run.now }
-{
-    let start = beginning(run, innermost);
+    let start = first(run, innermost.len());
     if body && starts(run, innermost) {
         Start::Aligned(innermost.len())
     } else if body && mixed(start) {
         Start::Wrong(Layout::MixedLeadingWhitespace, start.len())
     } else if !body && mixed(run) {
-        Start::Wrong(Layout::MixedLeadingWhitespace, n)
+        Start::Wrong(Layout::MixedLeadingWhitespace, run.len())
     } else if starts(run, innermost) {
-        Start::Inward(n)
+        Start::Inward(run.len())
     } else {
-        Start::Wrong(Layout::InconsistentLeadingWhitespace, n)
+        Start::Wrong(Layout::InconsistentLeadingWhitespace, run.len())
     }
 }
 
-// A run of `n` blanks before something else.
-pub(crate) fn indentation(body: bool, levels: Levels, n: usize, run: &[u8]) -> Start
-    ensures { result ≡ indentation_of body (texts_of levels.entry) n run.now }
-{
-    if same(run, levels.innermost()) {
-        Start::Aligned(n)
-    } else if run.is_empty() || levels.among(run) {
-        Start::Outward
-    } else {
-        deeper(body, levels.innermost(), n, run)
+impl<'a> Here<'a> {
+    // A line of blanks only, of which `n` come first.
+    fn blank_line(self, n: usize) -> Start
+        ensures { result ≡ line_of_blanks (texts_of self.entry.levels) n self.entry.ahead.bytes.now }
+    {
+        if self.levels.indented() && self.ahead.leads_outward() {
+            Start::Outward
+        } else {
+            Start::Still(n)
+        }
     }
-}
 
-// Which rule holds where a line starts.
-pub(crate) fn start(around: Around, levels: Levels, ahead: &[u8]) -> Start
-    ensures { result ≡ start_at around (texts_of levels.entry) ahead.now }
-{
-    let n = leading::<Gap>(ahead);
-    let (run, behind) = ahead.split_at(n);
-    if nested(around) {
-        Start::Still(n)
-    } else if line_over(behind) {
-        blank_line(levels, n, ahead)
-    } else {
-        indentation(around.body, levels, n, run)
+    // A run of blanks before something else.
+    fn indentation(self, run: &[u8]) -> Start
+        ensures { result ≡ indentation_of self.entry.around.body (texts_of self.entry.levels) (length run.now) run.now }
+    {
+        if same(run, self.levels.innermost()) {
+            Start::Aligned(run.len())
+        } else if run.is_empty() || self.levels.among(run) {
+            Start::Outward
+        } else {
+            deeper(self.around.body, self.levels.innermost(), run)
+        }
+    }
+
+    // Which rule holds where a line starts.
+    pub(crate) fn start(self) -> Start
+        ensures { result ≡ start_at self.entry.around (texts_of self.entry.levels) self.entry.ahead.bytes.now }
+    {
+        let n = leading::<Gap>(self.ahead.bytes);
+        let (run, behind) = self.ahead.bytes.split_at(n);
+        if nested(self.around) {
+            Start::Still(n)
+        } else if line_over(behind) {
+            self.blank_line(n)
+        } else {
+            self.indentation(run)
+        }
     }
 }

@@ -1,5 +1,5 @@
 -- Where scans and prefixes end, a text may be cut.
-use Rattle.std.proofs.Common.{◌≡◌, ℕ, zero, suc, pred, ◌+◌, ◌-◌, ◌<◌, ◌≤◌, Bool, true, false, cond, ◌&&◌, eqb, ltb, List, [], ◌∷◌, length, get_or, drop, IsUtf8, sym, refl, ap, ◌∙◌, subst, arith}
+use Rattle.std.proofs.Common.{◌≡◌, ℕ, zero, suc, pred, ◌+◌, ◌-◌, ◌<◌, ◌≤◌, Bool, true, false, cond, ◌&&◌, eqb, ltb, List, [], ◌∷◌, length, get_or, drop, Some, IsUtf8, sym, refl, ap, ◌∙◌, subst, arith}
 use lib.Utf8.{encodes, scalar, scalars}
 use Rattle.std.specs.Char.{len_utf8 as width_of}
 use Rattle.std.specs.Str.{IsCharBoundary}
@@ -11,8 +11,7 @@ use Rattle.std.proofs.lemmas.Str.{IsCharBoundary-after_ascii, IsCharBoundary-fro
 use Rattle.utf8.specs.Utf8.{character, shown_length}
 use Rattle.utf8.proofs.Rows.{character_encode, shown_character}
 use Rattle.scan.specs.Prefix.{begins}
-use Rattle.rules.specs.declared.parts.Move.{Move}
-use Rattle.rules.specs.declared.parts.Move.TheVariants.{Stop, Pass}
+use Rattle.rules.specs.Found.{Move, Stop}
 use Rattle.rules.specs.Scans.{moves, scan}
 
 abbrev pub all_low : List ℕ → Bool
@@ -76,7 +75,7 @@ character_edge x r u = go u.0 u.1.0 u.1.1
 -- a scan that passes whole characters ends behind one
 abbrev pub WholeMove : List ℕ → Move → Type 0
 WholeMove s Stop = Unit {0}
-WholeMove s (Pass more next) = IsCharBoundary s (suc more)
+WholeMove s (Some p) = IsCharBoundary s (suc p.more)
 
 abbrev pub WholeMoves : (Bool → List ℕ → Move) → Type 0
 WholeMoves m = (e : Bool) (c : ℕ) (s : List ℕ) → IsUtf8 (c ∷ s) → WholeMove (c ∷ s) (m e (c ∷ s))
@@ -93,7 +92,9 @@ scan_edge_by (suc k) m w e (c ∷ s) l u = go (m e (c ∷ s)) (w e c s u) (scan_
   where
     go : (v : Move) → WholeMove (c ∷ s) v → ((f : Bool) (t : List ℕ) → length t ≤ k → IsUtf8 t → IsCharBoundary t (scan m 0 f t)) → IsCharBoundary (c ∷ s) (moves (λ more next. scan m more next s) v)
     go Stop b ih = IsCharBoundary-start (c ∷ s) u
-    go (Pass more next) b ih =
+    go (Some p) b ih =
+        let more = p.more in
+        let next = p.escaped in
         let rest : List ℕ = drop more s in
         let i = ih next rest (omega (arith, length-drop more s)) (IsUtf8-drop (c ∷ s) (suc more) u b) in
         let n : suc more + scan m 0 next rest ≡ suc (scan m more next s) = let o = owed m more next s (omega (arith, b.0)) in omega (arith, o) in

@@ -15,7 +15,7 @@ use Rattle.token.specs.declared.kinds.StringKind.{StringKind}
 use Rattle.token.specs.declared.kinds.TokenKind.{TokenKind}
 use Rattle.token.specs.declared.kinds.TokenKind.TheVariants as kind
 use Rattle.rules.specs.declared.found.Around.{Around}
-use Rattle.rules.specs.declared.found.Found.{Found}
+use Rattle.rules.specs.Found.{Found}
 use Rattle.rules.specs.declared.parts.Reach.{Reach}
 use Rattle.rules.specs.declared.parts.Reach.TheVariants.{Closes, Pauses, Ends}
 use Rattle.rules.specs.declared.parts.Rule.TheVariants as rule

@@ -1,5 +1,5 @@
 -- How far scans go.
-use Rattle.std.proofs.Common.{◌≡◌, ℕ, zero, suc, ◌+◌, ◌-◌, ◌<◌, ◌≤◌, Bool, true, false, cond, ◌&&◌, ◌||◌, eqb, List, [], ◌∷◌, length, take, drop, replicate, sym, refl, ap, ◌∙◌, subst, inl, inr, one-add, arith}
+use Rattle.std.proofs.Common.{◌≡◌, ℕ, zero, suc, ◌+◌, ◌-◌, ◌<◌, ◌≤◌, Bool, true, false, cond, ◌&&◌, ◌||◌, eqb, List, [], ◌∷◌, length, take, drop, replicate, Some, sym, refl, ap, ◌∙◌, subst, inl, inr, one-add, arith}
 use lib.Count.{leading_le}
 use Rattle.std.proofs.lemmas.List.{length-drop}
 use Rattle.std.proofs.lemmas.Bool.{and_cases, and_parts, cases_Bool, eq-eqb, eqb-true, false≢true, or_parts, true≢false}
@@ -10,8 +10,7 @@ use Rattle.scan.proofs.Prefixes.{begins_fits}
 use Rattle.token.specs.Strings.{delimiter_of}
 use Rattle.token.specs.declared.kinds.StringKind.{StringKind}
 use Rattle.utf8.specs.Utf8.{leading_ones, shown_length}
-use Rattle.rules.specs.declared.parts.Move.{Move}
-use Rattle.rules.specs.declared.parts.Move.TheVariants.{Stop, Pass}
+use Rattle.rules.specs.Found.{Move, Stop}
 use Rattle.rules.specs.Lines.{has, mixed}
 use Rattle.rules.specs.Picks.{first_is}
 use Rattle.rules.specs.Scans.{doubled, empty, line_end, moves, opening, over_comment, over_text, scan, width}
@@ -31,7 +30,7 @@ width_le (c ∷ s) = shown_le c
 
 moved_le : (onward : ℕ → Bool → ℕ) (n : ℕ) (v : Move) → ((k : ℕ) (f : Bool) → onward k f ≤ n) → moves onward v ≤ suc n
 moved_le onward n Stop h = omega arith
-moved_le onward n (Pass k f) h = omega (arith, h k f)
+moved_le onward n (Some p) h = omega (arith, h p.more p.escaped)
 
 -- a scan stays inside
 pub scan_le : (m : Bool → List ℕ → Move) (owed : ℕ) (e : Bool) (s : List ℕ) → scan m owed e s ≤ length s

@@ -4,7 +4,7 @@ use Rattle.std.proofs.lemmas.Bool.{and_parts, eqb-false, eqb-true, false≢true,
 use Rattle.scan.specs.Prefix.{begins}
 use Rattle.scan.proofs.Prefixes.{begins_fits}
 use Rattle.rules.specs.declared.found.Around.{Around}
-use Rattle.rules.specs.declared.found.Found.{Found}
+use Rattle.rules.specs.Found.{Found}
 use Rattle.rules.specs.declared.parts.Start.{Start}
 use Rattle.rules.specs.declared.parts.Start.TheVariants.{Still, Aligned, Outward, Inward, Wrong}
 use Rattle.rules.specs.Laws.{RulesSound, Sound}

@@ -20,8 +20,7 @@ use Rattle.token.specs.declared.kinds.StringKind.{StringKind}
 use Rattle.token.specs.declared.kinds.TokenKind.{TokenKind}
 use Rattle.utf8.specs.Utf8.{shown_length}
 use Rattle.rules.specs.declared.found.Around.{Around}
-use Rattle.rules.specs.declared.found.Found.{Found}
-use Rattle.rules.specs.declared.found.Found.TheVariants.{Lexed, Fails, Unclosed}
+use Rattle.rules.specs.Found.{Found, Lexed, Fails, Unclosed}
 use Rattle.rules.specs.declared.parts.Reach.{Reach}
 use Rattle.rules.specs.declared.parts.Reach.TheVariants.{Closes, Pauses, Ends}
 use Rattle.rules.specs.declared.parts.Rule.{Rule}

@@ -4,8 +4,7 @@ use Rattle.scan.specs.Classes.{gap}
 use Rattle.scan.specs.Prefix.{begins}
 use Rattle.token.specs.declared.kinds.Delimiter.{Delimiter}
 use Rattle.rules.specs.declared.found.Around.{Around}
-use Rattle.rules.specs.declared.found.Found.{Found}
-use Rattle.rules.specs.declared.found.Found.TheVariants.{Lexed, Fails, Unclosed}
+use Rattle.rules.specs.Found.{Found, Lexed, Fails, Unclosed}
 use Rattle.rules.specs.declared.parts.Change.{Change}
 use Rattle.rules.specs.declared.parts.Change.TheVariants as change
 use Rattle.rules.specs.declared.parts.Effect.{Effect}

@@ -1,3 +1,5 @@
+pub mod Found
+pub mod Causes
 pub mod Scans
 pub mod Strings
 pub mod Table

@@ -5,8 +5,7 @@ use Rattle.scan.specs.Classes.{gap, white}
 use Rattle.scan.specs.Prefix.{begins}
 use Rattle.token.specs.declared.kinds.TokenKind.TheVariants as kind
 use Rattle.rules.specs.declared.found.Around.{Around}
-use Rattle.rules.specs.declared.found.Found.{Found}
-use Rattle.rules.specs.declared.found.Found.TheVariants.{Lexed, Fails, Unclosed}
+use Rattle.rules.specs.Found.{Found, Lexed, Fails, Unclosed}
 use Rattle.rules.specs.declared.found.Layout.TheVariants as layout
 use Rattle.rules.specs.declared.parts.Start.{Start}
 use Rattle.rules.specs.declared.parts.Start.TheVariants.{Still, Aligned, Outward, Inward, Wrong}

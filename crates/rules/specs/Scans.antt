@@ -1,9 +1,8 @@
 -- Scans over what lies ahead.
-use Rattle.std.specs.Prelude.{ℕ, zero, suc, pred, Bool, true, false, cond, ◌||◌, List, [], ◌∷◌}
+use Rattle.std.specs.Prelude.{ℕ, zero, suc, pred, Bool, true, false, cond, ◌||◌, List, [], ◌∷◌, Some}
 use Rattle.scan.specs.Prefix.{begins}
 use Rattle.utf8.specs.Utf8.{shown_length}
-use Rattle.rules.specs.declared.parts.Move.{Move}
-use Rattle.rules.specs.declared.parts.Move.TheVariants.{Stop, Pass}
+use Rattle.rules.specs.Found.{Move, Stop, Pass}
 
 abbrev pub empty : List ℕ → Bool
 empty [] = true
@@ -44,7 +43,7 @@ character s = Pass (pred (width s)) false
 
 abbrev pub moves : (ℕ → Bool → ℕ) → Move → ℕ
 moves onward Stop = 0
-moves onward (Pass more escaped) = suc (onward more escaped)
+moves onward (Some p) = suc (onward p.more p.escaped)
 
 -- how many bytes are passed, from a place where so many are owed to a move made before
 abbrev pub scan : (Bool → List ℕ → Move) → (owed : ℕ) → (escaped : Bool) → List ℕ → ℕ

@@ -7,12 +7,9 @@ use Rattle.token.specs.declared.kinds.StringDelimiter.TheVariants as quote
 use Rattle.token.specs.declared.kinds.StringKind.{StringKind}
 use Rattle.token.specs.declared.kinds.TokenKind.{TokenKind}
 use Rattle.token.specs.declared.kinds.TokenKind.TheVariants as kind
-use Rattle.rules.specs.declared.found.Found.{Found}
-use Rattle.rules.specs.declared.found.Found.TheVariants.{Lexed, Fails}
+use Rattle.rules.specs.Found.{Found, Lexed, Fails, Move, Stop, Pass}
 use Rattle.rules.specs.declared.found.Layout.{Layout}
 use Rattle.rules.specs.declared.found.Layout.TheVariants.{UnterminatedString, UnterminatedBacktick}
-use Rattle.rules.specs.declared.parts.Move.{Move}
-use Rattle.rules.specs.declared.parts.Move.TheVariants.{Stop, Pass}
 use Rattle.rules.specs.declared.parts.Reach.{Reach}
 use Rattle.rules.specs.declared.parts.Reach.TheVariants.{Closes, Pauses, Ends}
 use Rattle.rules.specs.Scans.{character, doubled, opening, scan}

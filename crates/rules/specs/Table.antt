@@ -10,8 +10,7 @@ use Rattle.token.specs.declared.kinds.StringKind.{StringKind}
 use Rattle.token.specs.declared.kinds.TokenKind.{TokenKind}
 use Rattle.token.specs.declared.kinds.TokenKind.TheVariants as kind
 use Rattle.rules.specs.declared.found.Around.{Around}
-use Rattle.rules.specs.declared.found.Found.{Found}
-use Rattle.rules.specs.declared.found.Found.TheVariants.{Lexed, Fails}
+use Rattle.rules.specs.Found.{Found, Lexed, Fails}
 use Rattle.rules.specs.declared.found.Layout.TheVariants as layout
 use Rattle.rules.specs.declared.parts.Rule.{Rule}
 use Rattle.rules.specs.declared.parts.Rule.TheVariants as by

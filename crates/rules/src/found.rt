@@ -30,13 +30,14 @@ pub enum Layout {
     UnterminatedBacktick,
 }
 
-// What a rule finds.
+// Why a rule finds no token.
 #[derive(Clone, Copy)]
-pub enum Found {
-    // A token here, of a kind and a length.
-    Lexed(TokenKind, usize),
+pub enum Miss {
     // A fault: why, how many bytes ahead, and over how many.
     Fails(Layout, usize, usize),
     // The text ends while an interpolation is open.
     Unclosed,
 }
+
+// What a rule finds: a token here, of a kind and a length, or why there is none.
+pub type Found = Result<(TokenKind, usize), Miss>;

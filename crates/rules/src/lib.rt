@@ -2,6 +2,7 @@
 
 #![tactic(auto)]
 
+mod causes;
 mod effects;
 mod examples;
 mod found;
@@ -9,5 +10,5 @@ mod parts;
 
 pub use effects::effect;
 pub use examples::samples_hold;
-pub use found::{Around, Found, Layout};
-pub use parts::{Change, Effect, Move, Reach, Rule, Start};
+pub use found::{Around, Found, Layout, Miss};
+pub use parts::{Change, Effect, Move, Pass, Reach, Rule, Start};

@@ -1,12 +1,15 @@
 use crate::found::Layout;
 use token::{Delimiter, StringDelimiter, TokenKind};
 
-// One step of a scan: stop, or pass a byte and some more, with the next character escaped or not.
+// A step of a scan over a byte and so many more, with the next character escaped or not.
 #[derive(Clone, Copy)]
-pub enum Move {
-    Stop,
-    Pass(usize, bool),
+pub struct Pass {
+    pub more: usize,
+    pub escaped: bool,
 }
+
+// What a scan does at a place: a step, or it stops.
+pub type Move = Option<Pass>;
 
 // Where the inside of a string leads: to its delimiter, to an interpolation, each with the bytes up to and with it, or to the end of the text.
 #[derive(Clone, Copy)]

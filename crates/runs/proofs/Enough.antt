@@ -1,7 +1,7 @@
 -- What is to come does not turn on how many calls are made, once they are enough.
 use Rattle.std.proofs.Common.{◌≡◌, ℕ, zero, suc, ◌+◌, ◌*◌, ◌/◌, ◌<◌, ◌≤◌, Bool, true, false, cond, eqb, List, [], ◌∷◌, map, length, take, drop, replicate, Some, None, Ok, Err, Option, Result, sym, refl, ap, ◌∙◌, subst, ⊎_elim, arith}
 use Rattle.std.proofs.lemmas.List.{drop-drop, length-drop}
-use Rattle.std.proofs.lemmas.Bool.{cond-true, cond-false, eqb-true, ne_eqb, or_cases, both_ways}
+use Rattle.std.proofs.lemmas.Bool.{cond-true, cond-false, eqb-true, ne_eqb, or_cases}
 use Rattle.token.specs.declared.fault.Fault.{Fault}
 use Rattle.token.specs.declared.place.Position.{Position}
 use Rattle.token.specs.declared.place.Token.{Token}
@@ -12,14 +12,13 @@ use Rattle.rules.specs.Effects.{effect_of}
 use Rattle.rules.specs.Laws.{Fits}
 use Rattle.rules.specs.Lines.{indented}
 use Rattle.rules.specs.Scans.{empty}
-use Rattle.rules.specs.declared.found.Around.{Around}
 use Rattle.rules.specs.declared.parts.Effect.{Effect}
 use Rattle.rules.specs.declared.parts.Effect.TheVariants.{Indents, Dedents, Texts, Ends, Other}
 use Rattle.lexer.specs.Answers.{after, answer, behind, seen, stood}
 use Rattle.lexer.specs.Runs.{Meaning, onward, run, tokens_of}
 use Rattle.lexer.specs.States.{Rooms, State, ahead, around, level_texts, opening, spanned}
 use Rattle.lexer.specs.declared.seen.Seen.{Seen}
-use Rattle.lexer.proofs.Came.{came, fitting}
+use Rattle.lexer.proofs.Came.{came, fitting, token_within}
 use Rattle.runs.specs.Coming.{budget, meant, rest, tell}
 
 -- within a line, before a byte, one half of a token is due
@@ -28,17 +27,6 @@ owed column s = cond (eqb column 0) 0 (cond (empty s) 0 1)
 
 abbrev pub due : State → ℕ
 due σ = owed σ.place.column (ahead σ)
-
--- a token lies within what is ahead
-pub fits_within : (fresh : Bool) (o : Around) (levels : List (List ℕ)) (s : List ℕ) (e : Effect) (n : ℕ) → Fits fresh o levels s e n → n ≤ length s
-fits_within fresh o levels s Indents n f = omega (arith, f.1.within)
-fits_within fresh o levels s Dedents n f = omega (arith, f.0)
-fits_within fresh o levels s Texts n f = f.1
-fits_within fresh o levels s Ends n f = omega (arith, f.0)
-fits_within fresh o levels s (Other c) n f = f.1
-
-pub token_within : (σ : State) (t : Token) → answer σ ≡ Ok (Some t) → t.length ≤ length (ahead σ)
-token_within σ t e = fits_within (eqb σ.place.column 0) (around σ) (level_texts σ) (ahead σ) (effect_of t.kind) t.length (fitting σ t e)
 
 -- what lies ahead behind a token
 pub ahead_after : (σ : State) (t : Token) → t.length ≤ length (ahead σ) → ahead (after σ t) ≡ drop t.length (ahead σ)
@@ -49,7 +37,7 @@ gap_in_line : (c : ℕ) → gap c ≡ true → eqb c 10 ≡ false
 gap_in_line c g = ne_eqb c 10 (λ z. ⊎_elim (λ (e : eqb c 32 ≡ true). omega (arith, eqb-true c 32 e)) (λ (e : eqb c 9 ≡ true). omega (arith, eqb-true c 9 e)) (or_cases _ _ g))
 
 past_in_line : (b : Bool) (p : Position) → b ≡ false → (past b p).column ≡ p.column + 1
-past_in_line true p e = absurd (both_ways true e refl)
+past_in_line true p e = cc
 past_in_line false p e = refl
 
 gap_stays : (c : ℕ) (s : List ℕ) → gap c ≡ true → breaks (c ∷ s) ≡ false
@@ -58,7 +46,7 @@ gap_stays c s g = rw (gap_in_line c g) refl
 -- a run of one blank stays in its line
 column_over : (n : ℕ) (s : List ℕ) (c : ℕ) (p : Position) → gap c ≡ true → take n s ≡ replicate n c → (walk n s p).column ≡ p.column + n
 column_over zero s c p g e = omega arith
-column_over (suc n) [] c p g e = absurd (let z : ◌≡◌ {A = ℕ} 0 1 = cc in omega arith)
+column_over (suc n) [] c p g e = cc
 column_over (suc n) (b ∷ bs) c p g e =
     let q : b ≡ c = cc in
     let r : take n bs ≡ replicate n c = cc in
@@ -87,14 +75,14 @@ owed_end column [] e = go (eqb column 0)
     go : (b : Bool) → ◌≡◌ {A = ℕ} (cond b 0 0) 0
     go true = refl
     go false = refl
-owed_end column (c ∷ s) e = absurd (both_ways false refl e)
+owed_end column (c ∷ s) e = cc
 
 owed_inside : (column : ℕ) (s : List ℕ) → 0 < column → 0 < length s → owed column s ≡ 1
 owed_inside column [] h l = absurd (omega arith)
 owed_inside column (c ∷ s) h l = cond-false _ _ _ (ne_eqb column 0 (λ z. omega arith))
 
 indented_some : {A : Type 0} (f : A → List ℕ) (xs : List A) → indented (map f xs) ≡ true → 0 < length xs
-indented_some f [] e = absurd (both_ways false refl e)
+indented_some f [] e = cc
 indented_some f (x ∷ xs) e = omega arith
 
 length_behind : {A : Type 0} (xs : List A) → 0 < length xs → length (behind xs) + 1 ≡ length xs

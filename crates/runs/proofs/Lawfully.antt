@@ -9,10 +9,9 @@ use Rattle.token.specs.declared.place.Token.{Token}
 use Rattle.source.specs.Places.{walk}
 use Rattle.source.proofs.Walks.{walk_offset}
 use Rattle.rules.specs.Effects.{effect_of}
-use Rattle.rules.specs.declared.found.Found.{Found}
-use Rattle.rules.specs.declared.found.Found.TheVariants.{Lexed, Fails, Unclosed}
+use Rattle.rules.specs.Found.{Found, Lexed, Fails, Unclosed}
 use Rattle.lexer.specs.Answers.{after, answer, lacks, placed, roomed, stored}
-use Rattle.lexer.proofs.Came.{came}
+use Rattle.lexer.proofs.Came.{came, token_within}
 use Rattle.lexer.specs.Runs.{Meaning}
 use Rattle.lexer.specs.States.{State, ahead, found, opening}
 use Rattle.runs.specs.Coming.{meant}
@@ -20,7 +19,7 @@ use Rattle.runs.specs.Hands.{Hands, done, more}
 use Rattle.runs.specs.Laws.{Laid, RunsLawful}
 use Rattle.runs.specs.Opens.{Open, closed, leaves, lexeme, opened}
 use Rattle.runs.specs.Orders.{AllOrderly}
-use Rattle.runs.proofs.Enough.{ahead_after, counted, meant_tells, token_within, whole_meant}
+use Rattle.runs.proofs.Enough.{ahead_after, counted, meant_tells, whole_meant}
 use Rattle.runs.proofs.Handing.{hands_meant}
 use Rattle.runs.proofs.Mirrors.{Mirrors, lexeme_ahead, mirrors_on, opening_mirrors, stands}
 
@@ -61,13 +60,13 @@ pub nothing_ended : (σ : State) → answer σ ≡ Ok None → σ.standing.ended
 nothing_ended σ e = go σ.standing.ended e
   where
     room : (t : Token) (o : Option Cause) → roomed t o ≡ Ok None → false ≡ true
-    room t None e = absurd (let z : ◌≡◌ {A = ℕ} 0 1 = cc in omega arith)
-    room t (Some c) e = absurd (let z : ◌≡◌ {A = ℕ} 0 1 = cc in omega arith)
+    room t None e = cc
+    room t (Some c) e = cc
 
     look : (f : Found) → stored σ (placed σ f) ≡ Ok None → false ≡ true
     look (Lexed k n) e = room (record { kind = k; position = σ.place; length = n }) (lacks σ (effect_of k)) e
-    look (Fails c a n) e = absurd (let z : ◌≡◌ {A = ℕ} 0 1 = cc in omega arith)
-    look Unclosed e = absurd (let z : ◌≡◌ {A = ℕ} 0 1 = cc in omega arith)
+    look (Fails c a n) e = cc
+    look Unclosed e = cc
 
     go : (b : Bool) → cond b (Ok None) (stored σ (placed σ (found σ))) ≡ Ok None → b ≡ true
     go true e = refl

@@ -1,7 +1,6 @@
 -- What a state holds open is what the tokens tell, and each token may stand where it does.
 use Rattle.std.proofs.Common.{◌≡◌, ℕ, ◌+◌, ◌≤◌, Bool, true, false, eqb, List, [], ◌∷◌, map, length, take, drop, replicate, is_some, Some, Ok, sym, refl, ap, ◌∙◌, subst, arith}
 use Rattle.std.proofs.lemmas.List.{length-drop, length-take-le}
-use Rattle.std.proofs.lemmas.Bool.{both_ways}
 use Rattle.token.specs.Told.{origin}
 use Rattle.token.specs.declared.kinds.Delimiter.{Delimiter}
 use Rattle.token.specs.declared.kinds.Delimiter.TheVariants.{Brace, Bracket, FormatString, Paren}
@@ -22,10 +21,10 @@ use Rattle.rules.specs.declared.parts.Effect.TheVariants.{Indents, Dedents, Text
 use Rattle.lexer.specs.Answers.{after, answer, behind, changed, seen, stood}
 use Rattle.lexer.specs.States.{Inner, Rooms, State, ahead, around, level_texts, newest, opening, spanned}
 use Rattle.lexer.specs.declared.seen.Seen.{Seen}
-use Rattle.lexer.proofs.Came.{came, fitting}
+use Rattle.lexer.proofs.Came.{came, fitting, token_within}
 use Rattle.runs.specs.Opens.{Open, Pair, changes, closed, effects, format, lexeme, opened, pair_of}
 use Rattle.runs.specs.Orders.{Deeper, Filled, Matches, Nest, Orderly, Proper, newest as newest_pair}
-use Rattle.runs.proofs.Enough.{ahead_after, token_within}
+use Rattle.runs.proofs.Enough.{ahead_after}
 
 -- what the tokens leave open is what the state holds open, and the state is sound
 pub record Mirrors (σ : State) (o : Open) : Type 0 where
@@ -47,9 +46,9 @@ opening_mirrors text rooms = record {
   ended = refl;
   within = omega arith;
   place = refl;
-  bodied = λ e. absurd (both_ways false refl e);
+  bodied = λ e. cc;
   nest = tt;
-  over = λ e. absurd (both_ways false refl e);
+  over = λ e. cc;
 }
 
 -- the text of a token that is answered is what lies ahead
@@ -76,47 +75,30 @@ deeper o levels s n d =
 -- delimiters of one shape are one pair
 paired : (d e : Delimiter) → Shaped d (Some e) → pair_of e ≡ pair_of d
 paired Brace Brace h = refl
-paired Brace Bracket h = absurd (both_ways false refl h)
-paired Brace (FormatString k) h = absurd (both_ways false refl h)
-paired Brace Paren h = absurd (both_ways false refl h)
-paired Bracket Brace h = absurd (both_ways false refl h)
 paired Bracket Bracket h = refl
-paired Bracket (FormatString k) h = absurd (both_ways false refl h)
-paired Bracket Paren h = absurd (both_ways false refl h)
-paired (FormatString j) Brace h = absurd (both_ways false refl h)
-paired (FormatString j) Bracket h = absurd (both_ways false refl h)
 paired (FormatString j) (FormatString k) h = refl
-paired (FormatString j) Paren h = absurd (both_ways false refl h)
-paired Paren Brace h = absurd (both_ways false refl h)
-paired Paren Bracket h = absurd (both_ways false refl h)
-paired Paren (FormatString k) h = absurd (both_ways false refl h)
 paired Paren Paren h = refl
+paired _ _ h = cc
 
 closes_newest : (d : Delimiter) (ds : List Delimiter) → Shaped d (newest ds) → newest_pair (map pair_of ds) ≡ Some (pair_of d)
 closes_newest d [] h = absurd h
 closes_newest d (e ∷ ds) h = ap (λ (p : Pair). Some p) (paired d e h)
 
 ends_newest : (ds : List Delimiter) → is_some (format_of (newest ds)) ≡ true → newest_pair (map pair_of ds) ≡ Some format
-ends_newest [] h = absurd (both_ways false refl h)
-ends_newest (Brace ∷ ds) h = absurd (both_ways false refl h)
-ends_newest (Bracket ∷ ds) h = absurd (both_ways false refl h)
+ends_newest [] h = cc
 ends_newest (FormatString k ∷ ds) h = refl
-ends_newest (Paren ∷ ds) h = absurd (both_ways false refl h)
+ends_newest (_ ∷ ds) h = cc
 
 matches : (c : Change) (σ : State) (o : Open) → Mirrors σ o → Allows (around σ) c → Matches c o
-matches change.Nothing σ o m a = tt
 matches change.Marks σ o m a = sym m.marked ∙ a.1
 matches change.Unmarks σ o m a = sym m.marked ∙ a.0
-matches change.SeesColon σ o m a = tt
-matches change.Names σ o m a = tt
-matches (change.Opens d) σ o m a = tt
 matches (change.Closes d) σ o m a = ap newest_pair (sym m.openers) ∙ closes_newest d σ.standing.inner.openers a
-matches change.BeginsFormat σ o m a = tt
 matches change.EndsFormat σ o m a = ap newest_pair (sym m.openers) ∙ ends_newest σ.standing.inner.openers a
+matches _ σ o m a = tt
 
 empty_length : (s : List ℕ) → empty s ≡ true → length s ≡ 0
 empty_length [] e = refl
-empty_length (c ∷ s) e = absurd (both_ways false refl e)
+empty_length (c ∷ s) e = cc
 
 -- what a token finds open, by its effect; w is its text
 proper : (e : Effect) (n : ℕ) (w : List ℕ) (σ : State) (o : Open) → w ≡ take n (ahead σ) → Mirrors σ o →
@@ -135,51 +117,27 @@ proper (Other c) n w σ o q m f = matches c σ o m f.2
 -- small changes touch neither the open Indents nor the end
 changes_indents : (c : Change) (o : Open) → (changes c o).indents ≡ o.indents
 changes_indents change.Nothing o = refl
-changes_indents change.Marks o = refl
-changes_indents change.Unmarks o = refl
-changes_indents change.SeesColon o = refl
-changes_indents change.Names o = refl
-changes_indents (change.Opens d) o = refl
-changes_indents (change.Closes d) o = refl
-changes_indents change.BeginsFormat o = refl
-changes_indents change.EndsFormat o = refl
+changes_indents _ o = refl
 
 changes_ended : (c : Change) (o : Open) → (changes c o).ended ≡ o.ended
 changes_ended change.Nothing o = refl
-changes_ended change.Marks o = refl
-changes_ended change.Unmarks o = refl
-changes_ended change.SeesColon o = refl
-changes_ended change.Names o = refl
-changes_ended (change.Opens d) o = refl
-changes_ended (change.Closes d) o = refl
-changes_ended change.BeginsFormat o = refl
-changes_ended change.EndsFormat o = refl
+changes_ended _ o = refl
 
 changes_marked : (c : Change) (t : Token) (s : Seen) (i : Inner) (o : Open) → is_some i.mark ≡ o.marked → is_some (changed c t s i).mark ≡ (changes c o).marked
-changes_marked change.Nothing t s i o e = e
 changes_marked change.Marks t s i o e = refl
 changes_marked change.Unmarks t s i o e = refl
-changes_marked change.SeesColon t s i o e = e
-changes_marked change.Names t s i o e = e
-changes_marked (change.Opens d) t s i o e = e
-changes_marked (change.Closes d) t s i o e = e
-changes_marked change.BeginsFormat t s i o e = e
-changes_marked change.EndsFormat t s i o e = e
+changes_marked _ t s i o e = e
 
 map_behind : {A B : Type 0} (f : A → B) (xs : List A) → map f (behind xs) ≡ behind (map f xs)
 map_behind f [] = refl
 map_behind f (x ∷ xs) = refl
 
 changes_openers : (c : Change) (t : Token) (s : Seen) (i : Inner) (o : Open) → map pair_of i.openers ≡ o.openers → map pair_of (changed c t s i).openers ≡ (changes c o).openers
-changes_openers change.Nothing t s i o e = e
-changes_openers change.Marks t s i o e = e
-changes_openers change.Unmarks t s i o e = e
-changes_openers change.SeesColon t s i o e = e
-changes_openers change.Names t s i o e = e
 changes_openers (change.Opens d) t s i o e = ap (λ (ps : List Pair). pair_of d ∷ ps) e
 changes_openers (change.Closes d) t s i o e = map_behind pair_of i.openers ∙ ap behind e
 changes_openers change.BeginsFormat t s i o e = ap (λ (ps : List Pair). format ∷ ps) e
 changes_openers change.EndsFormat t s i o e = map_behind pair_of i.openers ∙ ap behind e
+changes_openers _ t s i o e = e
 
 nest_behind : (ws : List (List ℕ)) → Nest ws → Nest (behind ws)
 nest_behind [] h = tt
@@ -200,37 +158,26 @@ open_of e σ t o = effects e (lexeme σ.text t) o
 indents_on : (e : Effect) (σ : State) (t : Token) (o : Open) → Mirrors σ o → level_texts (behind_of e σ t) ≡ (open_of e σ t o).indents
 indents_on Indents σ t o m = ap (λ (ws : List (List ℕ)). lexeme σ.text t ∷ ws) m.indents
 indents_on Dedents σ t o m = map_behind (spanned σ.text) σ.standing.levels ∙ ap behind m.indents
-indents_on Texts σ t o m = m.indents
-indents_on Ends σ t o m = m.indents
 indents_on (Other c) σ t o m = m.indents ∙ sym (changes_indents c o)
+indents_on _ σ t o m = m.indents
 
 marked_on : (e : Effect) (σ : State) (t : Token) (o : Open) → Mirrors σ o → is_some (behind_of e σ t).standing.inner.mark ≡ (open_of e σ t o).marked
-marked_on Indents σ t o m = m.marked
-marked_on Dedents σ t o m = m.marked
-marked_on Texts σ t o m = m.marked
-marked_on Ends σ t o m = m.marked
 marked_on (Other c) σ t o m = changes_marked c t (seen t (ahead σ)) σ.standing.inner o m.marked
+marked_on _ σ t o m = m.marked
 
 openers_on : (e : Effect) (σ : State) (t : Token) (o : Open) → Mirrors σ o → map pair_of (behind_of e σ t).standing.inner.openers ≡ (open_of e σ t o).openers
-openers_on Indents σ t o m = m.openers
-openers_on Dedents σ t o m = m.openers
-openers_on Texts σ t o m = m.openers
-openers_on Ends σ t o m = m.openers
 openers_on (Other c) σ t o m = changes_openers c t (seen t (ahead σ)) σ.standing.inner o m.openers
+openers_on _ σ t o m = m.openers
 
 ended_on : (e : Effect) (σ : State) (t : Token) (o : Open) → Mirrors σ o → (behind_of e σ t).standing.ended ≡ (open_of e σ t o).ended
-ended_on Indents σ t o m = m.ended
-ended_on Dedents σ t o m = m.ended
-ended_on Texts σ t o m = m.ended
 ended_on Ends σ t o m = refl
 ended_on (Other c) σ t o m = m.ended ∙ sym (changes_ended c o)
+ended_on _ σ t o m = m.ended
 
 bodied_on : (e : Effect) (σ : State) (t : Token) (o : Open) → Mirrors σ o → (behind_of e σ t).standing.body ≡ true → indented (level_texts (behind_of e σ t)) ≡ true
 bodied_on Indents σ t o m b = refl
-bodied_on Dedents σ t o m b = absurd (both_ways false refl b)
-bodied_on Texts σ t o m b = m.bodied b
-bodied_on Ends σ t o m b = m.bodied b
-bodied_on (Other c) σ t o m b = m.bodied b
+bodied_on Dedents σ t o m b = cc
+bodied_on _ σ t o m b = m.bodied b
 
 nest_on : (e : Effect) (n offset : ℕ) (w : List ℕ) (o : Open) → Proper n offset e w o → Nest o.indents → Nest (effects e w o).indents
 nest_on Indents n offset w o p h = (p, h)
@@ -242,11 +189,8 @@ nest_on (Other c) n offset w o p h = subst Nest (sym (changes_indents c o)) h
 -- a token that ends a session stands at the end
 over_on : (e : Effect) (σ : State) (t : Token) → σ.standing.ended ≡ false →
     Fits (eqb σ.place.column 0) (around σ) (level_texts σ) (ahead σ) e t.length → (behind_of e σ t).standing.ended ≡ true → empty (drop t.length (ahead σ)) ≡ true
-over_on Indents σ t a f h = absurd (both_ways σ.standing.ended a h)
-over_on Dedents σ t a f h = absurd (both_ways σ.standing.ended a h)
-over_on Texts σ t a f h = absurd (both_ways σ.standing.ended a h)
 over_on Ends σ t a f h = ap (λ (n : ℕ). empty (drop n (ahead σ))) f.0 ∙ f.1
-over_on (Other c) σ t a f h = absurd (both_ways σ.standing.ended a h)
+over_on _ σ t a f h = cc
 
 -- each token may stand where it does, by what the tokens before it left open
 pub stands : (σ : State) (t : Token) (o : Open) → answer σ ≡ Ok (Some t) → Mirrors σ o → Orderly σ.text o t

@@ -38,22 +38,20 @@ abbrev pub lexeme : List ℕ → Token → List ℕ
 lexeme text t = take t.length (drop t.position.offset text)
 
 abbrev pub changes : Change → Open → Open
-changes change.Nothing o = o
-changes change.Marks o = record { indents = o.indents; marked = true; openers = o.openers; ended = o.ended }
-changes change.Unmarks o = record { indents = o.indents; marked = false; openers = o.openers; ended = o.ended }
-changes change.SeesColon o = o
-changes change.Names o = o
-changes (change.Opens d) o = record { indents = o.indents; marked = o.marked; openers = pair_of d ∷ o.openers; ended = o.ended }
-changes (change.Closes d) o = record { indents = o.indents; marked = o.marked; openers = behind o.openers; ended = o.ended }
-changes change.BeginsFormat o = record { indents = o.indents; marked = o.marked; openers = format ∷ o.openers; ended = o.ended }
-changes change.EndsFormat o = record { indents = o.indents; marked = o.marked; openers = behind o.openers; ended = o.ended }
+changes change.Marks o = record o { marked = true }
+changes change.Unmarks o = record o { marked = false }
+changes (change.Opens d) o = record o { openers = pair_of d ∷ o.openers }
+changes (change.Closes d) o = record o { openers = behind o.openers }
+changes change.BeginsFormat o = record o { openers = format ∷ o.openers }
+changes change.EndsFormat o = record o { openers = behind o.openers }
+changes _ o = o
 
 -- a Dedent closes the innermost open Indent alone
 abbrev pub effects : Effect → List ℕ → Open → Open
-effects Indents w o = record { indents = w ∷ o.indents; marked = o.marked; openers = o.openers; ended = o.ended }
-effects Dedents w o = record { indents = behind o.indents; marked = o.marked; openers = o.openers; ended = o.ended }
+effects Indents w o = record o { indents = w ∷ o.indents }
+effects Dedents w o = record o { indents = behind o.indents }
 effects Texts w o = o
-effects Ends w o = record { indents = o.indents; marked = o.marked; openers = o.openers; ended = true }
+effects Ends w o = record o { ended = true }
 effects (Other c) w o = changes c o
 
 -- what is open behind a token

@@ -28,15 +28,11 @@ newest (p ∷ ps) = Some p
 
 -- the marks of a body alternate, and what closes matches the newest that is open
 abbrev pub Matches : Change → Open → Type 0
-Matches change.Nothing o = Unit {0}
 Matches change.Marks o = o.marked ≡ false
 Matches change.Unmarks o = o.marked ≡ true
-Matches change.SeesColon o = Unit {0}
-Matches change.Names o = Unit {0}
-Matches (change.Opens d) o = Unit {0}
 Matches (change.Closes d) o = newest o.openers ≡ Some (pair_of d)
-Matches change.BeginsFormat o = Unit {0}
 Matches change.EndsFormat o = newest o.openers ≡ Some format
+Matches _ o = Unit {0}
 
 -- Text and Dedent come under an open Indent; Eof comes at the end of the text, n bytes on, with no Indent and no mark open
 abbrev pub Proper : (n offset : ℕ) → Effect → (w : List ℕ) → Open → Type 0

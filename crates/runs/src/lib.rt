@@ -4,8 +4,6 @@
 ghost use Rattle.runs.specs.Laws.{RunsLawful};
 
 // Whatever is handed out from the opening of a session on keeps the laws.
-pub fn runs_are_lawful() -> u8
+pub fn runs_are_lawful()
     ensures { RunsLawful }
-{
-    0
-}
+{}

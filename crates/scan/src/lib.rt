@@ -3,7 +3,7 @@
 #![tactic(auto)]
 
 ghost use Rattle.std.specs.Prelude.{◌≡◌, ℕ, ◌≤◌, Bool, length, nat_eq};
-ghost use Rattle.std.specs.List.{common_prefix_len as common_of, prefix_len as leading_of};
+ghost use Rattle.std.specs.List.{common_prefix_len as common_of, prefix_len as leading_of, zip};
 ghost use Rattle.scan.specs.Classes.{gap, white, in_line};
 ghost use Rattle.scan.specs.Prefix.{begins};
 
@@ -53,34 +53,29 @@ pub fn leading<C: ByteClass>(bytes: &[u8]) -> usize
     ensures is { result ≡ leading_of C.ByteClass.member bytes.now }
     ensures within { result ≤ length bytes.now }
 {
-    let mut n = 0;
-    while n < bytes.len() {
-        if !C::holds(bytes[n]) {
-            return n;
-        }
-        n += 1;
-    }
-    n
+    bytes.iter().take_while(|b| C::holds(**b)).count()
 }
 
-// How many bytes two rows of bytes begin with in common.
+// How many bytes two rows begin with in common.
 pub fn common(a: &[u8], b: &[u8]) -> usize
     ensures is { result ≡ common_of nat_eq a.now b.now }
     ensures within { (result ≤ length a.now) × (result ≤ length b.now) }
 {
-    let mut n = 0;
-    while n < a.len() && n < b.len() {
-        if a[n] != b[n] {
-            return n;
-        }
-        n += 1;
-    }
-    n
+    alike(a, b)
+}
+
+// How many pairs of bytes are alike, from the front on.
+fn alike(a: &[u8], b: &[u8]) -> usize
+    ensures is { result ≡ leading_of (λ p. nat_eq p.0 p.1) (zip a.now b.now) }
+    ensures within { (result ≤ length a.now) × (result ≤ length b.now) }
+{
+    a.iter().zip(b).take_while(|(x, y)| x == y).count()
 }
 
 // Whether bytes begin with others.
+#[tactic(auto, using(crate::proofs::Prefixes::begins_pointwise))]
 pub fn starts(bytes: &[u8], prefix: &[u8]) -> bool
     ensures { result ≡ begins prefix.now bytes.now }
 {
-    common(bytes, prefix) == prefix.len()
+    bytes.starts_with(prefix)
 }

@@ -1,93 +1,42 @@
 -- A token that is answered was found, has room, and ends between characters.
-use Rattle.std.proofs.Common.{◌≡◌, ℕ, ◌+◌, ◌-◌, ◌<◌, ◌≤◌, Bool, true, false, cond, eqb, leb, List, length, Some, None, Ok, refl, ap, ◌∙◌, subst, arith}
+use Rattle.std.proofs.Common.{◌≡◌, ℕ, ◌+◌, ◌-◌, ◌<◌, ◌≤◌, Bool, true, false, cond, eqb, leb, nat_lt, List, length, Some, None, Ok, sym, refl, ap, ◌∙◌, subst, arith}
 use Rattle.std.proofs.lemmas.Bool.{leb-false, lt-ltb}
 use Rattle.token.specs.declared.fault.Cause.{Cause}
 use Rattle.token.specs.declared.place.Token.{Token}
 use Rattle.utf8.specs.Utf8.{bound}
 use Rattle.utf8.proofs.Bad.{boundary_bound}
-use Rattle.stack.specs.Held.{fits, stacked}
-use Rattle.stack.specs.declared.record.Stack.{Stack}
-use Rattle.token.specs.declared.place.Span.{Span}
+use Rattle.stack.specs.Held.{stacked}
 use Rattle.rules.specs.Effects.{effect_of}
 use Rattle.rules.specs.Laws.{Fits}
-use Rattle.rules.specs.declared.parts.Change.{Change}
-use Rattle.rules.specs.declared.parts.Change.TheVariants as change
 use Rattle.rules.specs.declared.parts.Effect.{Effect}
-use Rattle.rules.specs.declared.parts.Effect.TheVariants.{Indents, Dedents, Texts, Ends, Other}
+use Rattle.rules.specs.declared.parts.Effect.TheVariants.{Indents}
 use Rattle.rules.proofs.Whole.{Whole, rule_whole}
-use Rattle.lexer.specs.Answers.{answer, full, full_by, lacks}
-use Rattle.lexer.proofs.Came.{came, fitting}
+use Rattle.lexer.specs.Answers.{answer, full}
+use Rattle.lexer.proofs.Came.{came, fitting, token_within}
 use Rattle.lexer.specs.States.{ahead, around, found, level_texts}
-use Rattle.session.specs.Able.{Able, Deep, Open}
 use Rattle.session.specs.Sessions.{state_of}
 use Rattle.session.specs.declared.record.Session.{Session}
 use Rattle.source.specs.Cursors.{ahead as ahead_of}
 use Rattle.source.specs.Places.{walk}
 use Rattle.source.specs.declared.cursor.Cursor.{Cursor}
 use Rattle.source.proofs.Walks.{ahead_behind, walk_offset}
-use Rattle.lines.specs.Reaches.{reach_of, settled}
-use Rattle.lines.specs.declared.reached.Reach.{Reach}
-use Rattle.lines.proofs.Settled.{settled_drop, settled_run}
+use Rattle.lines.specs.Reaches.{settled}
+use Rattle.lines.proofs.Settled.{settled_drop}
 use Rattle.token.specs.declared.place.Position.{Position}
-use Rattle.session.proofs.Finds.{cursor_text, fits_length}
+use Rattle.session.proofs.Finds.{cursor_text}
 
 -- a table that is not full has room
-not_full : {A : Type 0} (xs : List A) (room : ℕ) (c : Cause) → full xs room c ≡ None → length xs < room
-not_full xs room c e = go (leb room (length xs)) refl e
+pub roomy : {A : Type 0} (xs : List A) (room : ℕ) (c : Cause) → full xs room c ≡ None → nat_lt (length xs) room ≡ true
+roomy xs room c e = go (leb room (length xs)) refl e
   where
-    go : (b : Bool) → leb room (length xs) ≡ b → cond b (Some c) None ≡ None → length xs < room
-    go true q e = absurd (let z : ◌≡◌ {A = ℕ} 0 1 = cc in omega arith)
-    go false q e = leb-false room (length xs) q
-
-change_able : (s : Session) (c : Change) → full_by (state_of s) c ≡ None → Open s c
-change_able s change.Nothing e = tt
-change_able s change.Marks e = tt
-change_able s change.Unmarks e = tt
-change_able s change.SeesColon e = tt
-change_able s change.Names e = tt
-change_able s (change.Opens d) e = lt-ltb _ _ (not_full _ _ _ e)
-change_able s (change.Closes d) e = tt
-change_able s change.BeginsFormat e = lt-ltb _ _ (not_full _ _ _ e)
-change_able s change.EndsFormat e = tt
-
-able : (s : Session) (f : Effect) → lacks (state_of s) f ≡ None → Able s f
-able s Indents e = lt-ltb _ _ (not_full _ _ _ e)
-able s Dedents e = tt
-able s Texts e = tt
-able s Ends e = tt
-able s (Other c) e = change_able s c e
-
--- what has room does not turn on the place
-open_same : (s u : Session) (c : Change) → u.openers ≡ s.openers → Open s c → Open u c
-open_same s u change.Nothing o h = tt
-open_same s u change.Marks o h = tt
-open_same s u change.Unmarks o h = tt
-open_same s u change.SeesColon o h = tt
-open_same s u change.Names o h = tt
-open_same s u (change.Opens d) o h = ap fits o ∙ h
-open_same s u (change.Closes d) o h = tt
-open_same s u change.BeginsFormat o h = ap fits o ∙ h
-open_same s u change.EndsFormat o h = tt
-
-able_same : (s u : Session) (f : Effect) → u.levels ≡ s.levels → u.openers ≡ s.openers → Able s f → Able u f
-able_same s u Indents l o h = ap fits l ∙ h
-able_same s u Dedents l o h = tt
-able_same s u Texts l o h = tt
-able_same s u Ends l o h = tt
-able_same s u (Other c) l o h = open_same s u c o h
-
--- behind a token of so many bytes an Indent has bytes of its own
-deep : (s u : Session) (n : ℕ) (f : Effect) → u.levels ≡ s.levels → u.cursor.position.offset ≡ s.cursor.position.offset + n → Fits (eqb s.cursor.position.column 0) (around (state_of s)) (level_texts (state_of s)) (ahead (state_of s)) f n → Deep u f
-deep s u n Indents l o h = omega (arith, s.shallow, h.1.longer, o, ap (λ (x : Stack Span). length (stacked x)) l)
-deep s u n Dedents l o h = tt
-deep s u n Texts l o h = tt
-deep s u n Ends l o h = tt
-deep s u n (Other c) l o h = tt
+    go : (b : Bool) → leb room (length xs) ≡ b → cond b (Some c) None ≡ None → nat_lt (length xs) room ≡ true
+    go true q e = cc
+    go false q e = lt-ltb (length xs) room (leb-false room (length xs) q)
 
 -- behind a token that is answered
 module _ (s : Session) (t : Token) (e : answer (state_of s) ≡ Ok (Some t)) (c : Cursor) (k : c.source ≡ s.cursor.source) (w : c.position ≡ walk t.length (ahead_of s.cursor) s.cursor.position) where
   within : t.length ≤ length (ahead_of s.cursor)
-  within = fits_length _ _ _ _ _ _ (fitting (state_of s) t e)
+  within = token_within (state_of s) t e
 
   offset : c.position.offset ≡ s.cursor.position.offset + t.length
   offset = ap (λ (q : Position). q.offset) w ∙ walk_offset t.length (ahead_of s.cursor) s.cursor.position within
@@ -95,40 +44,16 @@ module _ (s : Session) (t : Token) (e : answer (state_of s) ≡ Ok (Some t)) (c 
   pub shallow_behind : length (stacked s.levels) ≤ c.position.offset
   shallow_behind = omega (arith, offset, s.shallow)
 
-  pub settled_behind : settled s.outward (s.known - c.position.offset) (ahead_of c) ≡ true
-  settled_behind =
-      let n : s.known - c.position.offset ≡ s.known - s.cursor.position.offset - t.length = omega (arith, offset) in
-      (λ i. settled s.outward (n i) (ahead_behind s.cursor c t.length within k w i))
-      ∙ settled_drop s.outward t.length (s.known - s.cursor.position.offset) (ahead_of s.cursor) s.settled
+  pub settled_behind : (m : ℕ) → m ≡ s.blank.length - t.length → settled s.blank.outdents m (ahead_of c) ≡ true
+  settled_behind m d =
+      (λ i. settled s.blank.outdents (d i) (ahead_behind s.cursor c t.length within k w i))
+      ∙ settled_drop s.blank.outdents t.length s.blank.length (ahead_of s.cursor) s.settled
 
-  -- the session there, before the token is taken in
-  abbrev pub there : Session
-  there = record {
-    cursor = c;
-    levels = s.levels;
-    openers = s.openers;
-    mark = s.mark;
-    body = s.body;
-    colon = s.colon;
-    formats = s.formats;
-    ended = s.ended;
-    known = s.known;
-    outward = s.outward;
-    shallow = shallow_behind;
-    settled = settled_behind;
-  }
-
-  pub able_behind : Able there (effect_of t.kind)
-  able_behind = able_same s there (effect_of t.kind) refl refl (able s (effect_of t.kind) (came (state_of s) t e).roomy)
-
-  pub deep_behind : Deep there (effect_of t.kind)
-  deep_behind = deep s there t.length (effect_of t.kind) refl offset (fitting (state_of s) t e)
-
--- where the blank-line scan was made all of its white space is settled
-pub settled_here : (s : Session) (o : ℕ) (r : Reach) → o ≡ s.cursor.position.offset → r ≡ reach_of (ahead_of s.cursor) → settled r.outdents (o + r.length - s.cursor.position.offset) (ahead_of s.cursor) ≡ true
-settled_here s o r p q =
-    let n : o + r.length - s.cursor.position.offset ≡ r.length = omega arith in
-    ap (λ k. settled r.outdents k (ahead_of s.cursor)) n ∙ ap (λ (x : Reach). settled x.outdents x.length (ahead_of s.cursor)) q ∙ settled_run (ahead_of s.cursor)
+  -- an Indent has bytes of its own before the place
+  pub deep_behind : (f : Effect) → f ≡ effect_of t.kind → f ≡ Indents → length (stacked s.levels) < c.position.offset
+  deep_behind f q i =
+      let h = subst (λ g. Fits (eqb s.cursor.position.column 0) (around (state_of s)) (level_texts (state_of s)) (ahead (state_of s)) g t.length) (sym q ∙ i) (fitting (state_of s) t e) in
+      omega (arith, s.shallow, h.1.longer, offset)
 
 pub ends_between : (s : Session) (t : Token) → answer (state_of s) ≡ Ok (Some t) → bound (ahead (state_of s)) t.length ≡ true
 ends_between s t e =

@@ -1,3 +1,4 @@
 mod Ways
 mod Finds
 mod Handed
+mod Equal

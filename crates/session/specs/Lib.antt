@@ -1,4 +1,3 @@
 pub mod Sessions
 pub mod Sized
-pub mod Able
 pub mod Calls

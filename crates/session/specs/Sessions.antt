@@ -1,5 +1,5 @@
 -- What a session value stands for.
-use Rattle.std.specs.Prelude.{false, List}
+use Rattle.std.specs.Prelude.{List}
 use Rattle.source.specs.Sources.{text_of}
 use Rattle.stack.specs.Held.{room, stacked}
 use Rattle.lexer.specs.States.{Inner, Standing, State}
@@ -21,15 +21,15 @@ state_of s = record {
 
 -- a session that stands otherwise, at the same place
 abbrev pub stands : State → Standing → State
-stands σ w = record { text = σ.text; rooms = σ.rooms; place = σ.place; standing = w }
+stands σ w = record σ { standing = w }
 
 -- a session of which a small thing is otherwise
 abbrev pub turned : State → Inner → State
-turned σ i = stands σ (record { levels = σ.standing.levels; body = σ.standing.body; ended = σ.standing.ended; inner = i })
+turned σ i = stands σ (record σ.standing { inner = i })
 
 abbrev pub inner_of : State → Inner
 inner_of σ = σ.standing.inner
 
--- the openers are others, and the token was no f
+-- the openers are others
 abbrev pub opened : State → List Delimiter → State
-opened σ ds = turned σ (record { openers = ds; mark = (inner_of σ).mark; colon = (inner_of σ).colon; formats = false })
+opened σ ds = turned σ (record σ.standing.inner { openers = ds })

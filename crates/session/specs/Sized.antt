@@ -1,8 +1,7 @@
 -- What is found fits what lies ahead, and cuts no character.
 use Rattle.std.specs.Prelude.{◌≡◌, ◌≤◌, true}
 use Rattle.utf8.specs.Utf8.{bound}
-use Rattle.rules.specs.declared.found.Found.{Found}
-use Rattle.rules.specs.declared.found.Found.TheVariants.{Lexed, Fails, Unclosed}
+use Rattle.rules.specs.Found.{Found, Lexed, Fails, Unclosed}
 use Rattle.lexer.specs.States.{State, ahead}
 
 abbrev pub Sized : State → Found → Type 0

@@ -1,107 +1,64 @@
 ghost use Rattle.std.specs.Prelude.{◌≡◌, ◌≤◌, true};
 ghost use Rattle.rules.specs.Effects.{effect_of};
-ghost use Rattle.lexer.specs.Answers.{answer as answer_of, cause_of_layout, fault_at, full as full_of, lacks as lacks_of, placed as placed_by, roomed, unclosed as unclosed_at};
+ghost use Rattle.stack.specs.Held.{room, stacked};
+ghost use Rattle.lexer.specs.Answers.{answer as answer_of, full as full_of, lacks as lacks_of, placed as placed_by, roomed, unclosed as unclosed_at};
 ghost use Rattle.session.specs.Sessions.{state_of};
 ghost use Rattle.session.specs.Sized.{Sized};
 
 use crate::passing::place_behind;
 use crate::record::Session;
-use rules::{Change, Effect, Found, Layout, effect};
+use rules::{Change, Effect, Found, Miss, effect};
+use stack::Stack;
 use token::{Cause, Fault, Layer, Position, Token};
-
-// The cause of a fault of the layout.
-fn cause_of(layout: Layout) -> Cause
-    ensures { result ≡ cause_of_layout layout }
-{
-    match layout {
-        Layout::MixedLeadingWhitespace => Cause::MixedLeadingWhitespace,
-        Layout::InconsistentLeadingWhitespace => Cause::InconsistentLeadingWhitespace,
-        Layout::UnknownStartOfToken => Cause::UnknownStartOfToken,
-        Layout::UnexpectedCharacter => Cause::UnexpectedCharacter,
-        Layout::UnexpectedEndOfToken => Cause::UnexpectedEndOfToken,
-        Layout::MismatchedClosingDelimiter => Cause::MismatchedClosingDelimiter,
-        Layout::UnexpectedClosingDelimiter => Cause::UnexpectedClosingDelimiter,
-        Layout::InvalidEscapeSequence => Cause::InvalidEscapeSequence,
-        Layout::EscapeEndOfFile => Cause::EscapeEndOfFile,
-        Layout::UnpairedCarriageReturn => Cause::UnpairedCarriageReturn,
-        Layout::UnterminatedString => Cause::UnterminatedString,
-        Layout::UnterminatedBacktick => Cause::UnterminatedBacktick,
-    }
-}
-
-// A fault of the session.
-fn fault(cause: Cause, position: Position, length: u32) -> Fault
-    ensures { result ≡ fault_at cause position length }
-{
-    Fault {
-        cause,
-        layer: Layer::Session,
-        position,
-        length,
-        needed: 0,
-    }
-}
 
 // The fault over a mark that is open at the end.
 fn unclosed(mark: Option<Token>, position: Position) -> Fault
     ensures { result ≡ unclosed_at mark position }
 {
+    let cause = Cause::UnterminatedInterpolation;
     match mark {
-        Some(t) => fault(Cause::UnterminatedInterpolation, t.position, t.length),
-        None => fault(Cause::UnterminatedInterpolation, position, 0),
+        Some(t) => Fault::over(cause, Layer::Session, t),
+        None => Fault::new(cause, Layer::Session, position, 0),
     }
 }
 
+// The cause where a table is full.
+fn full<T: Copy + Drop>(table: &Stack<'_, T>, cause: Cause) -> Option<Cause>
+    ensures { result ≡ full_of (stacked table.now) (room table.now) cause }
+{
+    table.is_full().then_some(cause)
+}
+
 impl<'a, 't> Session<'a, 't> {
-    // What is found, at the session's place.
+    // What is found, at the session's place. A match, since `map_err` would need what `Sized` says of a fault once more, at the closure.
     fn placed(&self, found: Found) -> Result<Token, Fault>
         requires { Sized (state_of self.now) found }
         ensures { result ≡ placed_by (state_of self.now) found }
     {
         match found {
-            Found::Lexed(kind, n) => Ok(Token {
+            Ok((kind, n)) => Ok(Token {
                 kind,
                 position: self.cursor.position(),
                 length: n as u32,
             }),
-            Found::Fails(layout, distance, n) => {
+            Err(Miss::Fails(layout, distance, n)) => {
                 let there = place_behind(self.cursor, distance);
-                Err(fault(cause_of(layout), there, n as u32))
+                let cause = Cause::from(layout);
+                Err(Fault::new(cause, Layer::Session, there, n as u32))
             }
-            Found::Unclosed => Err(unclosed(self.mark, self.cursor.position())),
+            Err(Miss::Unclosed) => Err(unclosed(self.mark, self.cursor.position())),
         }
     }
 
-    // The cause where the table of levels is full.
-    fn levels_full(&self) -> Option<Cause>
-        ensures { result ≡ full_of (state_of self.now).standing.levels (state_of self.now).rooms.levels Cause.LevelsFull }
-    {
-        if self.levels.is_full() {
-            Some(Cause::LevelsFull)
-        } else {
-            None
-        }
-    }
-
-    // The cause where the table of openers is full.
-    fn openers_full(&self) -> Option<Cause>
-        ensures { result ≡ full_of (state_of self.now).standing.inner.openers (state_of self.now).rooms.openers Cause.OpenersFull }
-    {
-        if self.openers.is_full() {
-            Some(Cause::OpenersFull)
-        } else {
-            None
-        }
-    }
-
-    // The table that a token needs and that is full.
+    // The table that a token needs and that is full. The definitions go over the effects as data, and so does this.
     fn lacks(&self, effect: Effect) -> Option<Cause>
         ensures { result ≡ lacks_of (state_of self.now) effect }
     {
         match effect {
-            Effect::Indents => self.levels_full(),
-            Effect::Other(Change::Opens(_)) => self.openers_full(),
-            Effect::Other(Change::BeginsFormat) => self.openers_full(),
+            Effect::Indents => full(&self.levels, Cause::LevelsFull),
+            Effect::Other(Change::Opens(_) | Change::BeginsFormat) => {
+                full(&self.openers, Cause::OpenersFull)
+            }
             _ => None,
         }
     }
@@ -113,10 +70,8 @@ impl<'a, 't> Session<'a, 't> {
         if self.ended {
             return Ok(None);
         }
-        match self.placed(self.found()) {
-            Err(fault) => Err(fault),
-            Ok(token) => self.stored(token),
-        }
+        let token = self.placed(self.found())?;
+        self.stored(token)
     }
 
     // A token that was found, if the table that it needs has room.
@@ -125,7 +80,7 @@ impl<'a, 't> Session<'a, 't> {
     {
         match self.lacks(effect(token.kind)) {
             None => Ok(Some(token)),
-            Some(cause) => Err(fault(cause, token.position, token.length)),
+            Some(cause) => Err(Fault::over(cause, Layer::Session, token)),
         }
     }
 }

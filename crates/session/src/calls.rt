@@ -6,17 +6,20 @@ ghost use Rattle.session.specs.Calls.{SessionGlances, SessionNexts, SessionPlace
 ghost use Rattle.session.specs.Sessions.{state_of};
 
 use crate::record::Session;
+use lines::Reach;
 use source::{Cursor, Source};
 use stack::Stack;
 use token::{Delimiter, Fault, Position, Span, Token};
 
 impl<'a, 't> Session<'a, 't> {
     // At the beginning of a source's text. Both tables are emptied.
-    pub fn open(source: Source<'a>, levels: Stack<'t, Span>, openers: Stack<'t, Delimiter>) -> Self
+    pub fn open(
+        source: Source<'a>,
+        mut levels: Stack<'t, Span>,
+        mut openers: Stack<'t, Delimiter>,
+    ) -> Self
         ensures { state_of result ≡ opening (text_of source.entry) (record { levels = room levels.entry; openers = room openers.entry }) }
     {
-        let mut levels = levels;
-        let mut openers = openers;
         levels.clear();
         openers.clear();
         Session {
@@ -28,8 +31,10 @@ impl<'a, 't> Session<'a, 't> {
             colon: false,
             formats: false,
             ended: false,
-            known: 0,
-            outward: false,
+            blank: Reach {
+                length: 0,
+                outdents: false,
+            },
         }
     }
 
@@ -38,13 +43,11 @@ impl<'a, 't> Session<'a, 't> {
         ensures { SessionNexts (state_of self.old) result (state_of self.new) }
     {
         self.look_ahead();
-        let answer = self.answer();
-        match answer {
-            Ok(Some(t)) => self.hand_out(t),
-            Ok(None) => {}
-            Err(_) => {}
+        let answer = self.answer()?;
+        if let Some(t) = answer {
+            self.hand_out(t);
         }
-        answer
+        Ok(answer)
     }
 
     // The answer that next would give, and hands out nothing.
@@ -52,8 +55,7 @@ impl<'a, 't> Session<'a, 't> {
         ensures { SessionGlances (state_of self.old) result (state_of self.new) }
     {
         self.look_ahead();
-        let coming = self.answer();
-        coming
+        self.answer()
     }
 
     // Where the session is.
@@ -63,9 +65,9 @@ impl<'a, 't> Session<'a, 't> {
         self.here()
     }
 
-    // The cursor's place.
-    fn here(&self) -> Position
-        ensures { result ≡ (state_of self.now).place }
+    // Its place. A method on a change of the session cannot read the cursor itself.
+    pub(crate) fn here(&self) -> Position
+        ensures { result ≡ self.now.cursor.position }
     {
         self.cursor.position()
     }

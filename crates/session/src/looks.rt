@@ -1,4 +1,4 @@
-ghost use Rattle.std.specs.Prelude.{◌≡◌, ◌&&◌, length, ◌==◌, nat_le, nat_lt};
+ghost use Rattle.std.specs.Prelude.{◌≡◌, ◌&&◌, length, ◌==◌, nat_lt};
 ghost use Rattle.stack.specs.Held.{held};
 ghost use Rattle.lines.specs.Reaches.{reach_of};
 ghost use Rattle.source.specs.Cursors.{ahead as ahead_of};
@@ -28,30 +28,26 @@ impl<'a, 't> Session<'a, 't> {
         ensures is { result ≡ found_of (state_of self.now) }
         ensures sized { Sized (state_of self.now) result }
     {
-        let text = self.cursor.source().text().as_bytes();
         let levels = Levels {
-            text,
+            text: self.cursor.source().text().as_bytes(),
             spans: self.levels.entries(),
         };
-        let place = self.cursor.position();
         let ahead = Ahead {
             bytes: self.cursor.rest(),
-            known: self.known.saturating_sub(place.offset as usize),
-            outdents: self.outward,
+            blank: self.blank,
         };
-        rule_from(place.column == 0, self.around(), levels, ahead)
+        rule_from(self.here().column == 0, self.around(), levels, ahead)
     }
 
     // Whether a line starts here below an open Indent, and the blank-line scan was not made here before.
     fn may_lead_outward(&self) -> bool
-        ensures { result ≡ (self.now.cursor.position.column == 0 && (nat_lt 0 (length (held self.now.levels)) && nat_le self.now.known self.now.cursor.position.offset)) }
+        ensures { result ≡ (self.now.cursor.position.column == 0 && (nat_lt 0 (length (held self.now.levels)) && self.now.blank.length == 0)) }
     {
-        let place = self.cursor.position();
-        place.column == 0 && self.levels.len() > 0 && self.known <= place.offset as usize
+        self.here().column == 0 && self.levels.len() > 0 && self.blank.length == 0
     }
 
     // The white space that comes first.
-    fn blank(&self) -> Reach
+    fn scanned(&self) -> Reach
         ensures { result ≡ reach_of (ahead_of self.now.cursor) }
     {
         blank_reach(self.cursor.rest())
@@ -62,17 +58,7 @@ impl<'a, 't> Session<'a, 't> {
         ensures { state_of self.new ≡ state_of self.old }
     {
         if self.may_lead_outward() {
-            let blank = self.blank();
-            let end = self.offset() + blank.length;
-            self.outward = blank.outdents;
-            self.known = end;
+            self.blank = self.scanned();
         }
-    }
-
-    // The place's offset.
-    fn offset(&self) -> usize
-        ensures { result ≡ self.now.cursor.position.offset }
-    {
-        self.cursor.position().offset as usize
     }
 }

@@ -12,18 +12,18 @@ pub(crate) fn pass(cursor: &mut Cursor<'_>, n: usize)
     ensures of { cursor.new.source ≡ cursor.old.source }
     ensures at { cursor.new.position ≡ walk n (ahead cursor.old) cursor.old.position }
 {
+    // No `for`: the cursor is what moves, and it alone knows where a character ends.
     let end = cursor.position().offset as usize + n;
     while (cursor.position().offset as usize) < end {
-        let _ = cursor.advance();
+        cursor.advance();
     }
 }
 
 // The place so many bytes on, which are whole characters.
-pub(crate) fn place_behind(from: Cursor<'_>, n: usize) -> Position
-    requires { bound (ahead from) n ≡ true }
-    ensures { result ≡ walk n (ahead from.entry) from.entry.position }
+pub(crate) fn place_behind(mut cursor: Cursor<'_>, n: usize) -> Position
+    requires { bound (ahead cursor) n ≡ true }
+    ensures { result ≡ walk n (ahead cursor.entry) cursor.entry.position }
 {
-    let mut cursor = from;
     pass(&mut cursor, n);
     cursor.position()
 }

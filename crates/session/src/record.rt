@@ -1,13 +1,14 @@
-ghost use Rattle.std.specs.Prelude.{◌≡◌, ◌-◌, ◌≤◌, true, length};
+ghost use Rattle.std.specs.Prelude.{◌≡◌, ◌≤◌, true, length};
 ghost use Rattle.lines.specs.Reaches.{settled};
 ghost use Rattle.source.specs.Cursors.{ahead};
 ghost use Rattle.stack.specs.Held.{stacked};
 
+use lines::Reach;
 use source::Cursor;
 use stack::Stack;
 use token::{Delimiter, Span, Token};
 
-// A session over a source's text, with the caller's tables of levels and openers. Each open Indent has bytes of its own before the place. Up to the offset `known` the blank-line scan answers `outward` at every place to come.
+// A session over a source's text, with the caller's tables of levels and openers. Each open Indent has bytes of its own before the place. `blank` is what is known of the blank-line scan from the place on. What a token turns on or off is a flag, each by itself, as in the definition's `State`.
 #[derive(Drop)]
 pub struct Session<'a, 't> {
     pub(crate) cursor: Cursor<'a>,
@@ -18,8 +19,7 @@ pub struct Session<'a, 't> {
     pub(crate) colon: bool,
     pub(crate) formats: bool,
     pub(crate) ended: bool,
-    pub(crate) known: usize,
-    pub(crate) outward: bool,
+    pub(crate) blank: Reach,
     ghost shallow: { length (stacked levels) ≤ cursor.position.offset },
-    ghost settled: { settled outward (known - cursor.position.offset) (ahead cursor) ≡ true },
+    ghost settled: { settled blank.outdents blank.length (ahead cursor) ≡ true },
 }

@@ -1,19 +1,12 @@
--- What the admission answers, by the first bad sequence.
-use Rattle.std.proofs.Common.{◌≡◌, ℕ, ◌≤◌, true, not, ltb, List, length, is_some, Some, None, ap, ◌∙◌}
-use Rattle.std.proofs.lemmas.Bool.{cond-false, le-ltb}
-use Rattle.token.specs.Told.{gave}
+-- What the admission takes over.
+use Rattle.std.proofs.Common.{◌≡◌, ℕ, true, not, List, is_some, None, Ok, Err, Result, MatchResult, IsErrAnd, ap, subst}
 use Rattle.utf8.specs.Utf8.{first_bad_offset, well_formed}
-use Rattle.source.specs.Admission.{admission, turned_away, encoded}
-
-short : (bs : List ℕ) → length bs ≤ 65536 → admission bs ≡ encoded (first_bad_offset bs)
-short bs h = cond-false (ltb 65536 (length bs)) (turned_away 1 0) (encoded (first_bad_offset bs)) (le-ltb 65536 (length bs) h)
-
-pub admits : (bs : List ℕ) → length bs ≤ 65536 → first_bad_offset bs ≡ None → admission bs ≡ gave tt
-admits bs h e = short bs h ∙ ap encoded e
-
-pub refuses : (bs : List ℕ) (n : ℕ) → length bs ≤ 65536 → first_bad_offset bs ≡ Some n → admission bs ≡ turned_away 2 n
-refuses bs n h e = short bs h ∙ ap encoded e
 
 pub none_bad : (bs : List ℕ) → first_bad_offset bs ≡ None → well_formed bs ≡ true
 unfolding well_formed
 none_bad bs e = ap (λ o. not (is_some o)) e
+
+-- what is known of an answer's value is known of the value that is handed on when only the error is turned into another
+pub handed_on : {A E F : Type 0} (r : Result A E) (s : Result A F) (x : A) (P : A → Type 0) (R : E → Type 0) (Q : E → F → Type 0) → MatchResult r (λ a. s ≡ Ok a) (λ e. IsErrAnd s (Q e)) → s ≡ Ok x → MatchResult r P R → P x
+handed_on (Ok a) s x P R Q h e m = let i : a ≡ x = cc in subst P i m
+handed_on (Err b) s x P R Q h e m = absurd (subst (λ t. IsErrAnd t (Q b)) e h)

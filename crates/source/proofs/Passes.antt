@@ -1,5 +1,5 @@
 -- What passing one character does to a place.
-use Rattle.std.proofs.Common.{◌≡◌, ℕ, zero, suc, ◌+◌, ◌<◌, ◌≤◌, Bool, true, false, cond, not, ◌&&◌, eqb, List, [], ◌∷◌, ◌++◌, length, get_or, drop, IsUtf8, sym, refl, ap, ◌∙◌, subst, arith}
+use Rattle.std.proofs.Common.{◌≡◌, ℕ, ◌+◌, ◌<◌, ◌≤◌, Bool, true, false, not, ◌&&◌, eqb, List, [], ◌∷◌, ◌++◌, length, Some, slice_get, get_or, drop, IsUtf8, sym, refl, ap, ◌∙◌, subst, arith}
 use lib.Utf8.{scalar, scalars, encode, encodes}
 use Rattle.std.specs.Char.{len_utf8}
 use Rattle.std.specs.Str.{IsCharBoundary}
@@ -7,7 +7,7 @@ use Rattle.std.proofs.lemmas.List.{get_or_append_left}
 use Rattle.std.proofs.lemmas.Bool.{and_parts, and_left, cond-false, ne_eqb, eqb-true, eqb-false}
 use Rattle.std.proofs.lemmas.Str.{length-encode, len_utf8_bounds, IsUtf8-drop, IsCharBoundary-past_char}
 use Rattle.token.specs.declared.place.Position.{Position}
-use Rattle.source.specs.Places.{none, breaks, past, walk}
+use Rattle.source.specs.Places.{behind, none, breaks, past, walk}
 use Rattle.utf8.specs.Utf8.{character, bound, well_formed}
 use Rattle.utf8.proofs.Bad.{bound_boundary, boundary_bound, well_formed_text}
 use Rattle.utf8.proofs.Rows.{Written, in_1, in_2, in_3, in_4, written, character_encode, row_of_1}
@@ -60,13 +60,6 @@ first_length bs f = ap character f.split ∙ character_encode f.char f.rest f.is
 pub first_there : (x : ℕ) (r : List ℕ) → IsUtf8 (x ∷ r) → 0 < character (x ∷ r)
 first_there x r u = let f = first_of x r u in omega (arith, first_length (x ∷ r) f, length-encode f.char, (len_utf8_bounds f.char).0)
 
--- the place behind the first character
-abbrev pub behind : ℕ → Bool → Position → Position
-behind n breaks p =
-    cond breaks
-    (record { offset = p.offset + n; line = p.line + 1; column = 0 })
-    (record { offset = p.offset + n; line = p.line; column = p.column + n })
-
 first_walk : (x : ℕ) (r : List ℕ) (p : Position) → IsUtf8 (x ∷ r) → walk (character (x ∷ r)) (x ∷ r) p ≡ behind (character (x ∷ r)) (breaks (x ∷ r)) p
 first_walk x r p u = by (eqb x 10) refl
   where
@@ -107,23 +100,17 @@ stepped text p (x ∷ r) w b e h =
     let next : bound text (p.offset + character (x ∷ r)) ≡ true = ap (λ k. bound text (p.offset + k)) n ∙ boundary_bound text _ u on in
     record { there = first_there x r a; room = omega (arith, n, on.0); next = next; moved = first_walk x r p a }
 
+-- bytes that have a first one are not empty
+pub one_ahead : (bs : List ℕ) (x : ℕ) → Some x ≡ slice_get bs 0 → 0 < length bs
+one_ahead [] x e = absurd cc
+one_ahead (y ∷ r) x e = omega arith
+
 -- a length that agrees with the grammar wherever a character begins with the first byte is the first character's
-pub agreed : (bs : List ℕ) (n : ℕ) → 0 < length bs → 0 < character bs → ((r : List ℕ) → 0 < character (get_or bs 0 0 ∷ r) → n ≡ character (get_or bs 0 0 ∷ r)) → n ≡ character bs
-agreed [] n h c k = absurd (omega arith)
-agreed (x ∷ r) n h c k = k r c
-
-pub some_ahead : (bs : List ℕ) → 0 < length bs → true ≡ not (none bs)
-some_ahead [] h = absurd (omega arith)
-some_ahead (x ∷ r) h = refl
-
-pub none_ahead : (bs : List ℕ) → length bs ≡ 0 → false ≡ not (none bs)
-none_ahead [] h = refl
-none_ahead (x ∷ r) h = absurd (omega arith)
-
-pub still : (bs : List ℕ) (n : ℕ) (p : Position) → length bs ≡ 0 → p ≡ walk n bs p
-still [] zero p h = refl
-still [] (suc n) p h = refl
-still (x ∷ r) n p h = absurd (omega arith)
+pub agreed : (bs : List ℕ) (x n : ℕ) → Some x ≡ slice_get bs 0 → 0 < character bs → ((r : List ℕ) → 0 < character (x ∷ r) → n ≡ character (x ∷ r)) → n ≡ character bs
+agreed [] x n e c k = absurd cc
+agreed (y ∷ r) x n e c k =
+    let i : x ≡ y = cc in
+    k r (subst (λ z. 0 < character (z ∷ r)) (sym i) c) ∙ ap (λ z. character (z ∷ r)) i
 
 pub behind_offset : (n : ℕ) (b : Bool) (p q : Position) → q ≡ behind n b p → q.offset ≡ p.offset + n
 behind_offset n true p q e = ap (λ (z : Position). z.offset) e

@@ -23,3 +23,10 @@ abbrev pub walk : ℕ → List ℕ → Position → Position
 walk zero bs p = p
 walk (suc n) [] p = p
 walk (suc n) (b ∷ bs) p = walk n bs (past (breaks (b ∷ bs)) p)
+
+-- n bytes on, at the start of a new line where the text breaks there
+abbrev pub behind : ℕ → Bool → Position → Position
+behind n breaks p =
+    cond breaks
+    (record { offset = p.offset + n; line = p.line + 1; column = 0 })
+    (record { offset = p.offset + n; line = p.line; column = p.column + n })

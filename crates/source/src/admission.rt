@@ -25,21 +25,16 @@ impl<'a> Source<'a> {
         if bytes.len() > MAX_TEXT {
             return Err(refused(Cause::TextTooLong, 0));
         }
-        match utf8::text(bytes) {
-            Ok(text) => {
-                self.text = text;
-                Ok(())
-            }
-            Err(at) => Err(refused(Cause::InvalidUtf8, at as u32)),
-        }
+        let text = utf8::text(bytes).map_err(|at| refused(Cause::InvalidUtf8, at as u32))?;
+        *self = Source { text };
+        Ok(())
     }
 
     // The text it holds.
     pub fn text(&self) -> &'a str
         ensures { result.now ≡ text_of self.now }
     {
-        let held = self.text;
-        held
+        self.text
     }
 }
 
@@ -47,15 +42,9 @@ impl<'a> Source<'a> {
 fn refused(cause: Cause, offset: u32) -> Fault
     ensures { result ≡ record { cause = cause; layer = Layer.Admission; position = record { offset = offset; line = 0; column = 0 }; length = 0; needed = 0 } }
 {
-    Fault {
-        cause,
-        layer: Layer::Admission,
-        position: Position {
-            offset,
-            line: 0,
-            column: 0,
-        },
-        length: 0,
-        needed: 0,
-    }
+    let position = Position {
+        offset,
+        ..Position::default()
+    };
+    Fault::new(cause, Layer::Admission, position, 0)
 }

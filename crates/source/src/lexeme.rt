@@ -14,25 +14,11 @@ impl<'a> Source<'a> {
         let text = self.text;
         let start = token.position.offset as usize;
         let end = start + token.length as usize;
-        if !text.is_char_boundary(start) {
-            return Err(outside(token));
+        // The library's `get` would not do: of an empty part it does not promise that it stands between characters.
+        if text.is_char_boundary(start) && text.is_char_boundary(end) {
+            Ok(&text[start..end])
+        } else {
+            Err(Fault::over(Cause::TokenOutsideText, Layer::Text, token))
         }
-        if !text.is_char_boundary(end) {
-            return Err(outside(token));
-        }
-        Ok(&text[start..end])
-    }
-}
-
-// The refusal of a token that is not in the text, at the place that it names.
-fn outside(token: Token) -> Fault
-    ensures { result ≡ record { cause = Cause.TokenOutsideText; layer = Layer.Text; position = token.position; length = token.length; needed = 0 } }
-{
-    Fault {
-        cause: Cause::TokenOutsideText,
-        layer: Layer::Text,
-        position: token.position,
-        length: token.length,
-        needed: 0,
     }
 }

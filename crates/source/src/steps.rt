@@ -1,7 +1,7 @@
-ghost use Rattle.std.specs.Prelude.{◌≡◌, ℕ, ◌+◌, ◌<◌, ◌≤◌, not, if◌then◌else◌};
+ghost use Rattle.std.specs.Prelude.{◌≡◌, ℕ, ◌+◌, ◌<◌, ◌≤◌, not};
 ghost use Rattle.token.specs.Told.{origin};
 ghost use Rattle.source.specs.Cursors.{ahead};
-ghost use Rattle.source.specs.Places.{none, breaks, walk};
+ghost use Rattle.source.specs.Places.{behind, none, breaks, walk};
 ghost use Rattle.utf8.specs.Utf8.{character};
 
 use crate::cursor::Cursor;
@@ -17,11 +17,7 @@ impl<'a> Cursor<'a> {
     {
         Cursor {
             source,
-            position: Position {
-                offset: 0,
-                line: 0,
-                column: 0,
-            },
+            position: Position::default(),
         }
     }
 
@@ -29,24 +25,21 @@ impl<'a> Cursor<'a> {
     pub fn source(&self) -> Source<'a>
         ensures { result ≡ self.now.source }
     {
-        let of = self.source;
-        of
+        self.source
     }
 
     // The place.
     pub fn position(&self) -> Position
         ensures { result ≡ self.now.position }
     {
-        let place = self.position;
-        place
+        self.position
     }
 
     // The bytes of the text that lie ahead.
     pub fn rest(&self) -> &'a [u8]
         ensures { result.now ≡ ahead self.now }
     {
-        let text = self.source.text.as_bytes();
-        &text[self.position.offset as usize..]
+        &self.source.text.as_bytes()[self.position.offset as usize..]
     }
 
     // Passes one character, and says whether there was one. Everything that moves a place goes through this step.
@@ -56,11 +49,11 @@ impl<'a> Cursor<'a> {
         ensures keeps { self.new.source ≡ self.old.source }
     {
         let rest = self.rest();
-        if rest.is_empty() {
+        let Some(first) = rest.first() else {
             return false;
-        }
-        let n = character_length(rest[0]) as u32;
-        self.position = beyond(self.position, n, breaks_line(rest));
+        };
+        let n = character_length(*first) as u32;
+        go_on(&mut self.position, n, breaks_line(rest));
         true
     }
 }
@@ -72,23 +65,16 @@ fn breaks_line(rest: &[u8]) -> bool
     matches!(rest, [b'\n', _, ..])
 }
 
-// The place n bytes on, at the start of a new line where the text breaks there.
-fn beyond(p: Position, n: u32, broken: bool) -> Position
-    requires { (p.offset + n ≤ 65536) × (p.line + p.column ≤ p.offset) }
-    ensures { result ≡ (if broken then (record { offset = p.offset + n; line = p.line + 1; column = 0 }) else (record { offset = p.offset + n; line = p.line; column = p.column + n })) }
+// Goes n bytes on, to the start of a new line where the text breaks there.
+fn go_on(place: &mut Position, n: u32, broken: bool)
+    requires { (place.old.offset + n ≤ 65536) × (place.old.line + place.old.column ≤ place.old.offset) }
+    ensures { place.new ≡ behind n broken place.old }
 {
-    let offset = p.offset + n;
+    place.offset += n;
     if broken {
-        Position {
-            offset,
-            line: p.line + 1,
-            column: 0,
-        }
+        place.line += 1;
+        place.column = 0;
     } else {
-        Position {
-            offset,
-            line: p.line,
-            column: p.column + n,
-        }
+        place.column += n;
     }
 }

@@ -1,5 +1,5 @@
 -- What a session means, before and after its calls.
-use Rattle.std.proofs.Common.{◌≡◌, ℕ, ◌≤◌, Bool, true, false, cond, List, [], ◌∷◌, length, Some, None, Ok, Err, Option, Result, sym, refl, ap, ◌∙◌, arith}
+use Rattle.std.proofs.Common.{◌≡◌, ◌≤◌, Bool, true, false, cond, List, [], ◌∷◌, length, Some, None, Ok, Err, Option, Result, sym, refl, ap, ◌∙◌, arith}
 use Rattle.std.proofs.lemmas.List.{length-drop}
 use Rattle.token.specs.declared.fault.Fault.{Fault}
 use Rattle.token.specs.declared.place.Token.{Token}
@@ -12,7 +12,7 @@ use Rattle.runs.proofs.Enough.{counted, meant_goes, meant_tells}
 use Rattle.session.specs.Calls.{SessionGlances, SessionNexts, handing}
 use Rattle.session.specs.Sessions.{state_of}
 use Rattle.session.specs.declared.record.Session.{Session}
-use Rattle.stream.specs.SessionSources.{Moves, Stays}
+use Rattle.stream.specs.SessionSources.{SessionMoves, SessionStays, session_means}
 use Rattle.stream.specs.Sources.{Glances, Nexts}
 
 -- a meaning that does not tell a token has none
@@ -29,8 +29,8 @@ meant_handing σ = go (answer σ) refl
   where
     go : (r : Result (Option Token) Fault) → answer σ ≡ r → meant (handing σ r) ≡ rest (meant σ)
     go (Ok (Some t)) e = meant_goes σ t e
-    go (Ok None) e = none_left (meant σ) (λ t h. let g = meant_tells σ in let z : ◌≡◌ {A = ℕ} 0 1 = cc in omega arith)
-    go (Err f) e = none_left (meant σ) (λ t h. let g = meant_tells σ in let z : ◌≡◌ {A = ℕ} 0 1 = cc in omega arith)
+    go (Ok None) e = none_left (meant σ) (λ t h. let g = meant_tells σ in cc)
+    go (Err f) e = none_left (meant σ) (λ t h. let g = meant_tells σ in cc)
 
 unless : (b : Bool) → cond b 0 2 ≤ 2
 unless true = omega arith
@@ -43,17 +43,17 @@ session_few s =
     (arith, counted (state_of s), unless s.ended, length-drop s.cursor.position.offset (text_of s.cursor.source), s.shallow, s.cursor.within, s.cursor.source.small)
 
 -- what a session's calls promise, as calls of a source
-pub glanced : (s : Session) (r : Result (Option Token) Fault) (τ : State) → SessionGlances (state_of s) r τ → Glances {A = State} meant Stays (state_of s) r τ
-glanced s r τ h = record {
+pub glanced : (s u : Session) (r : Result (Option Token) Fault) → SessionGlances (state_of s) r (state_of u) → Glances session_means SessionStays s r u
+glanced s u r h = record {
   gives = h.answers ∙ meant_tells (state_of s);
   leaves = ap meant h.leaves;
   few = session_few s;
   keeps = h.leaves;
 }
 
-pub nexted : (s : Session) (r : Result (Option Token) Fault) (τ : State) → SessionNexts (state_of s) r τ → Nexts {A = State} meant Moves (state_of s) r τ
-nexted s r τ h =
-    let e : τ ≡ handing (state_of s) (answer (state_of s)) = h.leaves ∙ ap (handing (state_of s)) h.answers in
+pub nexted : (s u : Session) (r : Result (Option Token) Fault) → SessionNexts (state_of s) r (state_of u) → Nexts session_means SessionMoves s r u
+nexted s u r h =
+    let e : state_of u ≡ handing (state_of s) (answer (state_of s)) = h.leaves ∙ ap (handing (state_of s)) h.answers in
     record {
       gives = h.answers ∙ meant_tells (state_of s);
       leaves = ap meant e ∙ meant_handing (state_of s);

@@ -1,5 +1,5 @@
 -- Whitespace that comes first is passed over.
-use Rattle.std.proofs.Common.{◌≡◌, ℕ, ◌≤◌, Bool, true, false, cond, List, [], ◌∷◌, length, Some, None, Ok, Err, Option, Result, sym, refl, ap, ◌∙◌, subst, arith}
+use Rattle.std.proofs.Common.{◌≡◌, ◌≤◌, Bool, true, false, cond, List, [], ◌∷◌, length, Some, None, Ok, Err, Option, Result, sym, refl, ap, ◌∙◌, subst, arith}
 use Rattle.std.proofs.lemmas.Bool.{cond-true, cond-false}
 use Rattle.token.specs.declared.fault.Fault.{Fault}
 use Rattle.token.specs.declared.place.Token.{Token}
@@ -19,8 +19,8 @@ sift_few (t ∷ ts) = go (blank t) (sift_few ts)
     go false h = omega arith
 
 never : (t : Token) (o : Option Fault) → ended o ≡ Ok (Some t) → ⊥
-never t None h = let z : ◌≡◌ {A = ℕ} 0 1 = cc in omega arith
-never t (Some f) h = let z : ◌≡◌ {A = ℕ} 0 1 = cc in omega arith
+never t None h = cc
+never t (Some f) h = cc
 
 -- the first of a meaning, taken apart
 leads_by : (ts : List Token) (o : Option Fault) (t : Token) → tell_by ts o ≡ Ok (Some t) → ts ≡ t ∷ behind ts

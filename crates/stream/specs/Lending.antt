@@ -1,7 +1,6 @@
--- What a lent session stands for.
-use Rattle.lexer.specs.States.{State}
-use Rattle.session.specs.Sessions.{state_of}
+-- What a lent source stands for.
+use Rattle.std.specs.Borrow.{MutBor}
 use Rattle.stream.specs.declared.lent.Lent.{Lent}
 
-abbrev pub lent_state : Lent → State
-lent_state l = state_of l.session.now
+abbrev pub lent : {A : Type 0} → Lent (MutBor A) → A
+lent l = l.source.now

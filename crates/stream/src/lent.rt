@@ -1,7 +1,5 @@
-use session::Session;
-
-// A session that is lent to a layer.
+// A source that is lent to a layer: `R` is a reference to it.
 #[derive(Drop)]
-pub struct Lent<'s, 'a, 't> {
-    pub(crate) session: &'s mut Session<'a, 't>,
+pub struct Lent<R> {
+    pub(crate) source: R,
 }

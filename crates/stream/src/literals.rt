@@ -8,44 +8,23 @@ use source::Source;
 use text::text;
 use token::{Cause, Fault, Layer, Position, Token, TokenKind};
 
-// A refusal by `literal`.
-fn refused(cause: Cause, position: Position, length: u32) -> Fault
-    ensures { result ≡ record { cause = cause; layer = Layer.Literal; position = position; length = length; needed = 0 } }
+// Lays the text of a token that comes next into a buffer, and answers the token with its text's length.
+fn lay(token: Token, source: &Source, buffer: &mut [u8]) -> Result<(Token, usize), Fault>
+    ensures tells { told result ≡ literal_of (text_of source.now) (length buffer.old) (Ok (Some token)) }
+    ensures fills { buffer.new ≡ literal_buffer (text_of source.now) (Ok (Some token)) buffer.old }
 {
-    Fault {
-        cause,
-        layer: Layer::Literal,
-        position,
-        length,
-        needed: 0,
+    if token.kind != TokenKind::StringToken {
+        return Err(Fault::over(Cause::NoStringToken, Layer::Literal, token));
     }
+    let n = text(source, token, buffer)?;
+    Ok((token, n))
 }
 
 // The refusal where the tokens have ended.
 fn ended() -> Fault
     ensures { result ≡ record { cause = Cause.SourceEnded; layer = Layer.Literal; position = record { offset = 0; line = 0; column = 0 }; length = 0; needed = 0 } }
 {
-    let nowhere = Position {
-        offset: 0,
-        line: 0,
-        column: 0,
-    };
-    refused(Cause::SourceEnded, nowhere, 0)
-}
-
-// Lays the text of a token that comes next into a buffer, and answers the token with its text's length.
-fn lay(token: Token, source: &Source, buffer: &mut [u8]) -> Result<(Token, usize), Fault>
-    ensures tells { told result ≡ literal_of (text_of source.now) (length buffer.old) (Ok (Some token)) }
-    ensures fills { buffer.new ≡ literal_buffer (text_of source.now) (Ok (Some token)) buffer.old }
-{
-    if token.kind == TokenKind::StringToken {
-        match text(source, token, buffer) {
-            Ok(n) => Ok((token, n)),
-            Err(fault) => Err(fault),
-        }
-    } else {
-        Err(refused(Cause::NoStringToken, token.position, token.length))
-    }
+    Fault::new(Cause::SourceEnded, Layer::Literal, Position::default(), 0)
 }
 
 // The text of the next token, laid into the start of a buffer: the token is taken and answered with its text's length. A refused literal takes nothing and writes nothing.
@@ -56,12 +35,8 @@ pub fn literal<S: TokenSource>(
 ) -> Result<(Token, usize), Fault>
     ensures { Literals S.TokenSource.meaning S.TokenSource.stays S.TokenSource.moves (text_of source.now) buffer.old tokens.old result tokens.new buffer.new }
 {
-    match tokens.glance()? {
-        None => Err(ended()),
-        Some(token) => {
-            let answer = lay(token, source, buffer)?;
-            let _ = tokens.next();
-            Ok(answer)
-        }
-    }
+    let token = tokens.glance()?.ok_or(ended())?;
+    let answer = lay(token, source, buffer)?;
+    let _ = tokens.next();
+    Ok(answer)
 }

@@ -1,36 +1,39 @@
+ghost use Rattle.std.specs.Prelude.{◌≡◌};
 ghost use Rattle.stream.specs.Sources.{Glances, Nexts};
-ghost use Rattle.stream.specs.Sifted.{Past, Shown, sifted};
+ghost use Rattle.stream.specs.Sifted.{Past, Shown, blank, sifted};
 
 use crate::sourced::TokenSource;
 use token::{Fault, Token, TokenKind};
 
-// The first token to come that is no Whitespace, or the ending. Whitespace before it is taken off.
+// Whether a token is Whitespace.
+#[tactic(auto, using(token::proofs::Same::kinds_tested))]
+fn is_blank(t: Token) -> bool
+    ensures { result ≡ blank t }
+{
+    t.kind == TokenKind::Whitespace
+}
+
+// The first token to come that is no Whitespace, or the ending. Whitespace before it is taken off. No `for`: a source is looked at before it moves, which an iterator is not.
 pub fn glance_past<S: TokenSource>(below: &mut S) -> Result<Option<Token>, Fault>
     ensures { Glances (sifted S.TokenSource.meaning) (Shown S.TokenSource.meaning S.TokenSource.stays S.TokenSource.moves) below.old result below.new }
 {
-    loop {
-        match below.glance()? {
-            None => return Ok(None),
-            Some(t) => {
-                if t.kind == TokenKind::Whitespace {
-                    let _ = below.next();
-                } else {
-                    return Ok(Some(t));
-                }
-            }
+    while let Some(t) = below.glance()? {
+        if !is_blank(t) {
+            return Ok(Some(t));
         }
+        let _ = below.next();
     }
+    Ok(None)
 }
 
 // The same, and that token is taken off.
 pub fn next_past<S: TokenSource>(below: &mut S) -> Result<Option<Token>, Fault>
     ensures { Nexts (sifted S.TokenSource.meaning) (Past S.TokenSource.meaning S.TokenSource.stays S.TokenSource.moves) below.old result below.new }
 {
-    loop {
-        match below.next()? {
-            None => return Ok(None),
-            Some(t) if t.kind == TokenKind::Whitespace => {}
-            Some(t) => return Ok(Some(t)),
+    while let Some(t) = below.next()? {
+        if !is_blank(t) {
+            return Ok(Some(t));
         }
     }
+    Ok(None)
 }

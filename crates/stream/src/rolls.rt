@@ -39,12 +39,9 @@ impl<'t> Roll<'t> {
     fn first(&self) -> Result<Option<Token>, Fault>
         ensures { result ≡ tell (means (rolled self.now)) }
     {
-        match self.behind() {
-            Some(t) => Ok(Some(t)),
-            None => match self.ending {
-                Some(fault) => Err(fault),
-                None => Ok(None),
-            },
+        match (self.behind(), self.ending) {
+            (None, Some(fault)) => Err(fault),
+            (token, _) => Ok(token),
         }
     }
 
@@ -66,8 +63,7 @@ impl<'t> TokenSource for Roll<'t> {
     ghost moves = { λ a b. rolled b ≡ forward (rolled a) };
 
     fn glance(&mut self) -> Result<Option<Token>, Fault> {
-        let coming = self.first();
-        coming
+        self.first()
     }
 
     fn next(&mut self) -> Result<Option<Token>, Fault> {

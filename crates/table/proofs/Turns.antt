@@ -1,12 +1,11 @@
 -- One turn of a scan.
-use Rattle.std.proofs.Common.{◌≡◌, ℕ, zero, suc, ◌+◌, ◌-◌, ◌<◌, ◌≤◌, min, Bool, List, [], ◌∷◌, length, take, drop, sym, refl, ap, ◌∙◌, zero-add, arith}
-use Rattle.std.proofs.lemmas.List.{drop_all, drop-drop, length-drop, take_rest}
-use Rattle.rules.specs.declared.parts.Move.{Move}
-use Rattle.rules.specs.declared.parts.Move.TheVariants.{Stop, Pass}
+use Rattle.std.proofs.Common.{◌≡◌, ℕ, zero, suc, ◌+◌, ◌-◌, ◌≤◌, min, Bool, List, [], ◌∷◌, length, take, drop, sym, refl, ap, ◌∙◌, zero-add, arith}
+use Rattle.std.proofs.lemmas.List.{length-drop, take_rest}
+use Rattle.rules.specs.Found.{Move, Pass}
 use Rattle.rules.specs.Scans.{moves, scan}
 
 -- what is owed is passed, as far as bytes are there
-pub paid : (m : Bool → List ℕ → Move) (k : ℕ) (e : Bool) (s : List ℕ) (j : ℕ) → j ≡ min k (length s) → scan m k e s ≡ j + scan m 0 e (drop j s)
+paid : (m : Bool → List ℕ → Move) (k : ℕ) (e : Bool) (s : List ℕ) (j : ℕ) → j ≡ min k (length s) → scan m k e s ≡ j + scan m 0 e (drop j s)
 paid m zero e s j h = let z : j ≡ 0 = omega arith in rw z (sym (zero-add _))
 paid m (suc k) e [] j h = let z : j ≡ 0 = omega arith in rw z (refl)
 paid m (suc k) e (c ∷ s) j h =
@@ -14,24 +13,15 @@ paid m (suc k) e (c ∷ s) j h =
     let i : scan m k e s ≡ min k (length s) + scan m 0 e (drop (min k (length s)) s) = paid m k e s (min k (length s)) refl in
     rw q (omega (arith, i))
 
-first_move : (m : Bool → List ℕ → Move) (e : Bool) (s : List ℕ) → 0 < length s → scan m 0 e s ≡ moves (λ k f. scan m k f (drop 1 s)) (m e s)
-first_move m e [] h = omega arith
-first_move m e (c ∷ s) h = refl
-
-module _ (m : Bool → List ℕ → Move) (b : List ℕ) (n : ℕ) (e : Bool) (l : n < length b) where
-  ahead : scan m 0 e (drop n b) ≡ moves (λ k f. scan m k f (drop 1 (drop n b))) (m e (take (length b - n) (drop n b)))
-  ahead = first_move m e (drop n b) (omega (arith, length-drop n b)) ∙ ap (λ s. moves (λ k f. scan m k f (drop 1 (drop n b))) (m e s)) (sym (take_rest b n))
-
-  pub turn_stop : m e (take (length b - n) (drop n b)) ≡ Stop → scan m 0 e (drop n b) ≡ 0
-  turn_stop h = ahead ∙ ap (λ v. moves (λ k f. scan m k f (drop 1 (drop n b))) v) h
-
-  pub turn_pass : (k j : ℕ) (f : Bool) → m e (take (length b - n) (drop n b)) ≡ Pass k f → j ≡ min k (length b - (n + 1)) → scan m 0 e (drop n b) ≡ 1 + j + scan m 0 f (drop (n + 1 + j) b)
-  turn_pass k j f h q =
-      let d : drop 1 (drop n b) ≡ drop (n + 1) b = drop-drop 1 n b in
-      let p : scan m k f (drop (n + 1) b) ≡ j + scan m 0 f (drop j (drop (n + 1) b)) = paid m k f (drop (n + 1) b) j (omega (arith, length-drop (n + 1) b)) in
-      let r : scan m 0 f (drop j (drop (n + 1) b)) ≡ scan m 0 f (drop (n + 1 + j) b) = ap (λ s. scan m 0 f s) (drop-drop j (n + 1) b) in
-      let a : scan m 0 e (drop n b) ≡ suc (scan m k f (drop (n + 1) b)) = ahead ∙ ap (λ v. moves (λ k f. scan m k f (drop 1 (drop n b))) v) h ∙ ap (λ s. suc (scan m k f s)) d in
-      omega arith
-
-pub turn_end : (m : Bool → List ℕ → Move) (b : List ℕ) (n : ℕ) (e : Bool) → length b ≤ n → scan m 0 e (drop n b) ≡ 0
-turn_end m b n e h = ap (λ s. scan m 0 e s) (drop_all n b h)
+-- how far a step leads
+pub turn : (m : Bool → List ℕ → Move) (e f : Bool) (s : List ℕ) (k n : ℕ) → 1 ≤ length s → m e s ≡ Pass k f → let b = take (length s - 1) (drop 1 s) in let r = take (length b - n) (drop n b) in n ≡ min k (length b) → (length r + n + 1 ≡ length s) × (scan m 0 e s ≡ n + 1 + scan m 0 f r)
+turn m e f [] k n l h q = absurd (omega arith)
+turn m e f (c ∷ s) k n l h q =
+    let b = take (suc (length s) - 1) s in
+    let z : b ≡ s = take_rest (c ∷ s) 1 in
+    let r : take (length b - n) (drop n b) ≡ drop n s = take_rest b n ∙ ap (λ t. drop n t) z in
+    let y : n ≡ min k (length s) = q ∙ ap (λ t. min k (length t)) z in
+    let p : scan m k f s ≡ n + scan m 0 f (drop n s) = paid m k f s n y in (
+      omega (arith, ap length r, length-drop n s),
+      ap (λ v. moves (λ k f. scan m k f s) v) h ∙ omega (arith, p, ap (λ t. scan m 0 f t) r),
+    )

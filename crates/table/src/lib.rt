@@ -10,4 +10,4 @@ mod walk;
 pub use picks::{general, nested};
 pub use steps::{Steps, passed};
 pub use strings::format_kind;
-pub use walk::{OverText, at_line_end};
+pub use walk::{OverText, at_line_end, line_end};

@@ -1,12 +1,13 @@
-ghost use Rattle.std.specs.Prelude.{◌≡◌, ◌≤◌, true, false, length};
+ghost use Rattle.std.specs.Prelude.{◌≡◌, ◌≤◌, ◌==◌, true, false, length};
 ghost use Rattle.rules.specs.Picks.{admits};
-ghost use Rattle.rules.specs.Scans.{empty, width as width_of};
-ghost use Rattle.rules.specs.Table.{bang as bang_of, brace as brace_of, found_by_rule, closing as closing_of, colon as colon_of, found_line_end, equals as equals_of, escape as escape_of, first_of, folded as folded_of, format_of, general as general_of, missing as missing_of, name_byte, nested as nested_of, pick as pick_of, plus as plus_of, separator as separator_of, shape as shape_of, stray as stray_of, twice as twice_of};
+ghost use Rattle.rules.specs.Scans.{empty};
+ghost use Rattle.table.specs.Finds.{chosen};
+ghost use Rattle.rules.specs.Table.{brace as brace_of, found_by_rule, closing as closing_of, found_line_end, escape as escape_of, first_of, folded as folded_of, general as general_of, missing as missing_of, name_byte, nested as nested_of, pick as pick_of, separator as separator_of, shape as shape_of, stray as stray_of, twice as twice_of};
 
 use crate::steps::passed;
 use crate::strings::{continuation, quotation};
-use crate::walk::OverComment;
-use rules::{Around, Found, Layout, Rule};
+use crate::walk::{OverComment, line_end, width};
+use rules::{Around, Found, Layout, Miss, Rule};
 use scan::{ByteClass, Gap, leading, starts};
 use token::{Delimiter, StringDelimiter, StringKind, TokenKind};
 use utf8::character_length;
@@ -27,16 +28,9 @@ fn first(ahead: &[u8]) -> char
     ensures { result ≡ first_of ahead.now }
 {
     match ahead {
-        [] => '\u{fffd}',
-        [c, ..] => {
-            if *c < 128 {
-                *c as char
-            } else if starts(ahead, &[0xEF, 0xBB, 0xBF]) {
-                '\u{feff}'
-            } else {
-                '\u{fffd}'
-            }
-        }
+        [c, ..] if *c < 128 => *c as char,
+        _ if starts(ahead, &[0xEF, 0xBB, 0xBF]) => '\u{feff}',
+        _ => '\u{fffd}',
     }
 }
 
@@ -76,60 +70,16 @@ fn pick(c: char) -> Rule
     }
 }
 
-// How many bytes the first character has.
-fn width(ahead: &[u8]) -> usize
-    ensures { result ≡ width_of ahead.now }
+// A token of two characters by its second, the first of these that fits, or else what is found otherwise.
+fn lex_choices(first: u8, choices: &[(u8, TokenKind)], otherwise: Found, ahead: &[u8]) -> Found
+    ensures { result ≡ chosen first choices.now otherwise ahead.now }
 {
-    match ahead {
-        [] => 0,
-        [c, ..] => character_length(*c),
+    for (second, kind) in choices {
+        if starts(ahead, &[first, *second]) {
+            return Ok((*kind, 2));
+        }
     }
-}
-
-fn bang(ahead: &[u8]) -> Found
-    ensures { result ≡ bang_of ahead.now }
-{
-    if starts(ahead, b"!=") {
-        Found::Lexed(TokenKind::BangEquals, 2)
-    } else if starts(ahead, b"!~") {
-        Found::Lexed(TokenKind::BangTilde, 2)
-    } else {
-        Found::Lexed(TokenKind::Bang, 1)
-    }
-}
-
-fn plus(ahead: &[u8]) -> Found
-    ensures { result ≡ plus_of ahead.now }
-{
-    if starts(ahead, b"++") {
-        Found::Lexed(TokenKind::PlusPlus, 2)
-    } else {
-        Found::Lexed(TokenKind::Plus, 1)
-    }
-}
-
-fn equals(ahead: &[u8]) -> Found
-    ensures { result ≡ equals_of ahead.now }
-{
-    if starts(ahead, b"==") {
-        Found::Lexed(TokenKind::EqualsEquals, 2)
-    } else if starts(ahead, b"=~") {
-        Found::Lexed(TokenKind::EqualsTilde, 2)
-    } else {
-        Found::Lexed(TokenKind::Equals, 1)
-    }
-}
-
-fn colon(ahead: &[u8]) -> Found
-    ensures { result ≡ colon_of ahead.now }
-{
-    if starts(ahead, b":=") {
-        Found::Lexed(TokenKind::ColonEquals, 2)
-    } else if starts(ahead, b"::") {
-        Found::Lexed(TokenKind::ColonColon, 2)
-    } else {
-        Found::Lexed(TokenKind::Colon, 1)
-    }
+    otherwise
 }
 
 // What stands where the second of two characters is missing.
@@ -137,8 +87,8 @@ fn missing(behind: &[u8]) -> Found
     ensures { result ≡ missing_of behind.now }
 {
     match behind {
-        [] => Found::Fails(Layout::UnexpectedEndOfToken, 1, 0),
-        [c, ..] => Found::Fails(Layout::UnexpectedCharacter, 1, character_length(*c)),
+        [] => Err(Miss::Fails(Layout::UnexpectedEndOfToken, 1, 0)),
+        [c, ..] => Err(Miss::Fails(Layout::UnexpectedCharacter, 1, character_length(*c))),
     }
 }
 
@@ -146,59 +96,40 @@ fn twice(c: u8, kind: TokenKind, ahead: &[u8]) -> Found
     requires { empty ahead.now ≡ false }
     ensures { result ≡ twice_of c kind ahead.now }
 {
-    if starts(ahead, &[c, c]) {
-        Found::Lexed(kind, 2)
-    } else {
-        missing(&ahead[1..])
-    }
+    lex_choices(c, &[(c, kind)], missing(&ahead[1..]), ahead)
 }
 
-// Delimiters of one shape close one another.
-fn shape(delimiter: Delimiter) -> u8
-    ensures { result ≡ shape_of delimiter }
+// Whether delimiters are of one shape, so that they close one another.
+fn alike(one: Delimiter, other: Delimiter) -> bool
+    ensures { result ≡ (shape_of one == shape_of other) }
 {
-    match delimiter {
-        Delimiter::Brace => 0,
-        Delimiter::Bracket => 1,
-        Delimiter::Paren => 2,
-        Delimiter::FormatString(_) => 3,
-    }
+    matches!(
+        (one, other),
+        (Delimiter::Brace, Delimiter::Brace)
+            | (Delimiter::Bracket, Delimiter::Bracket)
+            | (Delimiter::FormatString(_), Delimiter::FormatString(_))
+            | (Delimiter::Paren, Delimiter::Paren)
+    )
 }
 
 fn closing(delimiter: Delimiter, kind: TokenKind, newest: Option<Delimiter>) -> Found
     ensures { result ≡ closing_of delimiter kind newest }
 {
-    match newest {
-        None => Found::Fails(Layout::UnexpectedClosingDelimiter, 0, 0),
-        Some(newest) => {
-            if shape(newest) == shape(delimiter) {
-                Found::Lexed(kind, 1)
-            } else {
-                Found::Fails(Layout::MismatchedClosingDelimiter, 0, 0)
-            }
-        }
+    let newest = newest.ok_or(Miss::Fails(Layout::UnexpectedClosingDelimiter, 0, 0))?;
+    if alike(newest, delimiter) {
+        Ok((kind, 1))
+    } else {
+        Err(Miss::Fails(Layout::MismatchedClosingDelimiter, 0, 0))
     }
 }
 
-// The kind of the format string whose interpolation is open.
-fn format_of(newest: Option<Delimiter>) -> Option<StringKind>
-    ensures { result ≡ format_of newest }
-{
-    match newest {
-        Some(Delimiter::FormatString(kind)) => Some(kind),
-        _ => None,
-    }
-}
-
+// `}}` goes on with the format string whose interpolation is the newest opener.
 fn brace(newest: Option<Delimiter>, ahead: &[u8]) -> Found
     ensures { result ≡ brace_of newest ahead.now }
 {
-    if !starts(ahead, b"}}") {
-        return closing(Delimiter::Brace, TokenKind::BraceR, newest);
-    }
-    match format_of(newest) {
-        Some(kind) => continuation(kind, ahead),
-        None => closing(Delimiter::Brace, TokenKind::BraceR, newest),
+    match newest {
+        Some(Delimiter::FormatString(kind)) if starts(ahead, b"}}") => continuation(kind, ahead),
+        _ => closing(Delimiter::Brace, TokenKind::BraceR, newest),
     }
 }
 
@@ -223,12 +154,9 @@ fn separator(around: Around) -> TokenKind
 fn end_of_line(around: Around, ahead: &[u8]) -> Found
     ensures { result ≡ found_line_end around ahead.now }
 {
-    if starts(ahead, b"\n") {
-        Found::Lexed(separator(around), 1)
-    } else if starts(ahead, b"\r\n") {
-        Found::Lexed(separator(around), 2)
-    } else {
-        Found::Fails(Layout::UnpairedCarriageReturn, 0, 1)
+    match line_end(ahead) {
+        Some(n) => Ok((separator(around), n)),
+        None => Err(Miss::Fails(Layout::UnpairedCarriageReturn, 0, 1)),
     }
 }
 
@@ -237,8 +165,8 @@ fn stray(behind: &[u8]) -> Found
     ensures { result ≡ stray_of behind.now }
 {
     match behind {
-        [] => Found::Fails(Layout::EscapeEndOfFile, 0, 1),
-        [_, ..] => Found::Fails(Layout::InvalidEscapeSequence, 0, 1),
+        [] => Err(Miss::Fails(Layout::EscapeEndOfFile, 0, 1)),
+        [_, ..] => Err(Miss::Fails(Layout::InvalidEscapeSequence, 0, 1)),
     }
 }
 
@@ -247,7 +175,7 @@ fn folded(n: usize, ahead: &[u8]) -> Found
     requires { n ≤ length ahead.now }
     ensures { result ≡ folded_of n ahead.now }
 {
-    Found::Lexed(TokenKind::Whitespace, n + leading::<Gap>(&ahead[n..]))
+    Ok((TokenKind::Whitespace, n + leading::<Gap>(&ahead[n..])))
 }
 
 fn escape(ahead: &[u8]) -> Found
@@ -259,34 +187,49 @@ fn escape(ahead: &[u8]) -> Found
     } else if starts(ahead, b"\\\r\n") {
         folded(3, ahead)
     } else if starts(ahead, b"\\\r") {
-        Found::Fails(Layout::UnpairedCarriageReturn, 0, 2)
+        Err(Miss::Fails(Layout::UnpairedCarriageReturn, 0, 2))
     } else {
         stray(&ahead[1..])
     }
 }
 
-// What a rule of the table finds.
+// What may come second, and the token that it then makes.
+const BANG: [(u8, TokenKind); 2] = [(b'=', TokenKind::BangEquals), (b'~', TokenKind::BangTilde)];
+
+const PLUS: [(u8, TokenKind); 1] = [(b'+', TokenKind::PlusPlus)];
+
+const EQUALS: [(u8, TokenKind); 2] = [
+    (b'=', TokenKind::EqualsEquals),
+    (b'~', TokenKind::EqualsTilde),
+];
+
+const COLON: [(u8, TokenKind); 2] = [
+    (b'=', TokenKind::ColonEquals),
+    (b':', TokenKind::ColonColon),
+];
+
+// What a rule of the table finds. The rule is a value, picked by a match on characters, and then matched: a table of functions would hand out functions.
 fn by_rule(rule: Rule, around: Around, ahead: &[u8]) -> Found
     requires { admits rule ahead.now ≡ true }
     ensures { result ≡ found_by_rule rule around ahead.now }
 {
     match rule {
-        Rule::Blank => Found::Lexed(TokenKind::Whitespace, leading::<Gap>(ahead)),
-        Rule::Comment => Found::Lexed(TokenKind::Comment, passed(&OverComment, ahead)),
-        Rule::Single(kind) => Found::Lexed(kind, 1),
-        Rule::ByteOrderMark => Found::Lexed(TokenKind::ByteOrderMark, 3),
-        Rule::Bang => bang(ahead),
-        Rule::Plus => plus(ahead),
-        Rule::Equals => equals(ahead),
-        Rule::Colon => colon(ahead),
+        Rule::Blank => Ok((TokenKind::Whitespace, leading::<Gap>(ahead))),
+        Rule::Comment => Ok((TokenKind::Comment, passed(&OverComment, ahead))),
+        Rule::Single(kind) => Ok((kind, 1)),
+        Rule::ByteOrderMark => Ok((TokenKind::ByteOrderMark, 3)),
+        Rule::Bang => lex_choices(b'!', &BANG, Ok((TokenKind::Bang, 1)), ahead),
+        Rule::Plus => lex_choices(b'+', &PLUS, Ok((TokenKind::Plus, 1)), ahead),
+        Rule::Equals => lex_choices(b'=', &EQUALS, Ok((TokenKind::Equals, 1)), ahead),
+        Rule::Colon => lex_choices(b':', &COLON, Ok((TokenKind::Colon, 1)), ahead),
         Rule::Twice(c, kind) => twice(c, kind, ahead),
         Rule::Closing(delimiter, kind) => closing(delimiter, kind, around.newest),
         Rule::Brace => brace(around.newest, ahead),
         Rule::LineEnd => end_of_line(around, ahead),
         Rule::Escape => escape(ahead),
         Rule::Quote(delimiter) => quotation(delimiter, around.formats, ahead),
-        Rule::Name => Found::Lexed(TokenKind::Identifier, leading::<Name>(ahead)),
-        Rule::Unknown => Found::Fails(Layout::UnknownStartOfToken, 0, width(ahead)),
+        Rule::Name => Ok((TokenKind::Identifier, leading::<Name>(ahead))),
+        Rule::Unknown => Err(Miss::Fails(Layout::UnknownStartOfToken, 0, width(ahead))),
     }
 }
 

@@ -1,6 +1,6 @@
 ghost use Rattle.std.specs.Prelude.{◌≡◌, ℕ, ◌≤◌, Bool, false, List, length};
+ghost use Rattle.rules.specs.Found.{Move};
 ghost use Rattle.rules.specs.Scans.{scan};
-ghost use Rattle.rules.specs.declared.parts.Move.{Move};
 
 use rules::Move;
 
@@ -17,17 +17,14 @@ pub fn passed<S: Steps>(steps: &S, bytes: &[u8]) -> usize
     ensures is { result ≡ scan (S.Steps.moves steps.now) 0 false bytes.now }
     ensures within { result ≤ length bytes.now }
 {
-    let mut n = 0;
+    let mut rest = bytes;
     let mut escaped = false;
-    while n < bytes.len() {
-        match steps.step(escaped, &bytes[n..]) {
-            Move::Stop => return n,
-            Move::Pass(more, next) => {
-                n += 1;
-                n += more.min(bytes.len() - n);
-                escaped = next;
-            }
-        }
+    while let [_, behind @ ..] = rest {
+        let Some(pass) = steps.step(escaped, rest) else {
+            break;
+        };
+        rest = &behind[pass.more.min(behind.len())..];
+        escaped = pass.escaped;
     }
-    n
+    bytes.len() - rest.len()
 }

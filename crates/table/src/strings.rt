@@ -1,22 +1,16 @@
-ghost use Rattle.std.specs.Prelude.{◌≡◌, ◌+◌, ◌<◌, ◌≤◌, true, [], ◌∷◌, length, if◌then◌else◌};
+ghost use Rattle.std.specs.Prelude.{◌≡◌, ◌+◌, ◌≤◌, true, [], ◌∷◌, length, drop, if◌then◌else◌};
 ghost use Rattle.scan.specs.Prefix.{begins};
 ghost use Rattle.token.specs.Strings.{delimiter_of, quote_byte};
 ghost use Rattle.token.specs.declared.kinds.StringDelimiter.TheVariants.{QuoteDouble, QuoteSingle};
-ghost use Rattle.rules.specs.Strings.{continuation as continuation_of, formatting as formatting_of, kind_of, leads as leads_of, opened as opened_by, quotation as quotation_of, reach as reach_of, reaches, resumed as resumed_by, string_of, found_string, unterminated as unterminated_by};
+ghost use Rattle.rules.specs.Strings.{continuation as continuation_of, formatting as formatting_of, kind_of, quotation as quotation_of, reach as reach_of, reaches, string_of, found_string, unterminated as unterminated_by};
 ghost use Rattle.rules.specs.Scans.{closing};
+ghost use Rattle.table.specs.Finds.{ended};
 
 use crate::steps::passed;
-use crate::walk::OverString;
-use rules::{Found, Layout, Reach};
+use crate::walk::{OverString, delimited};
+use rules::{Found, Layout, Miss, Reach};
 use scan::starts;
 use token::{StringDelimiter, StringKind, TokenKind};
-
-// Whether bytes begin with the delimiter of a kind.
-fn delimited(ahead: &[u8], kind: StringKind) -> bool
-    ensures { result ≡ begins (delimiter_of kind) ahead.now }
-{
-    starts(ahead, kind.delimiter().as_bytes())
-}
 
 // Three of a quote, if they come first, else one.
 fn kind_of(delimiter: StringDelimiter, ahead: &[u8]) -> StringKind
@@ -27,33 +21,9 @@ fn kind_of(delimiter: StringDelimiter, ahead: &[u8]) -> StringKind
         indented: true,
     };
     StringKind {
-        delimiter,
         indented: delimited(ahead, three),
+        ..three
     }
-}
-
-// Where the inside of a string leads, by what stands behind `n` bytes of it.
-fn leads(kind: StringKind, n: usize, ahead: &[u8]) -> Reach
-    requires { n + length ahead.now < 18446744073709551616 }
-    ensures is { result ≡ leads_of kind n ahead.now }
-    ensures within { reaches result ≤ n + length ahead.now }
-{
-    if delimited(ahead, kind) {
-        Reach::Closes(n + kind.delimiter().len())
-    } else if starts(ahead, b"{{") {
-        Reach::Pauses(n + 2)
-    } else {
-        Reach::Ends
-    }
-}
-
-// Where the inside of a string leads.
-fn reach(kind: StringKind, format: bool, inside: &[u8]) -> Reach
-    ensures is { result ≡ reach_of kind format inside.now }
-    ensures within { reaches result ≤ length inside.now }
-{
-    let n = passed(&OverString { kind, format }, inside);
-    leads(kind, n, &inside[n..])
 }
 
 fn string_token(delimiter: StringDelimiter) -> TokenKind
@@ -81,37 +51,49 @@ fn formatting(delimiter: StringDelimiter) -> bool
     !matches!(delimiter, StringDelimiter::Backtick)
 }
 
-// A string from its opening delimiter, of `n` bytes, on.
-fn opened(kind: StringKind, n: usize, reach: Reach) -> Found
-    requires { n + reaches reach < 18446744073709551616 }
-    ensures { result ≡ opened_by kind n reach }
-{
-    match reach {
-        Reach::Closes(m) => Found::Lexed(string_token(kind.delimiter), n + m),
-        Reach::Pauses(m) => Found::Lexed(TokenKind::FormatStringStart, n + m),
-        Reach::Ends => Found::Fails(unterminated(kind.delimiter), 0, n),
+impl OverString {
+    // Where the inside of a string leads.
+    fn reach(self, inside: &[u8]) -> Reach
+        ensures is { result ≡ reach_of self.kind self.format inside.now }
+        ensures within { reaches result ≤ length inside.now }
+    {
+        let n = passed(&self, inside);
+        let (_, behind) = inside.split_at(n);
+        if delimited(behind, self.kind) {
+            Reach::Closes(n + self.kind.delimiter().len())
+        } else if starts(behind, b"{{") {
+            Reach::Pauses(n + 2)
+        } else {
+            Reach::Ends
+        }
+    }
+
+    // The token whose first `n` bytes stand before the inside of a string: of one kind if the string closes, of another if it pauses.
+    fn token(self, n: usize, ahead: &[u8], closes: TokenKind, pauses: TokenKind) -> Found
+        requires { n ≤ length ahead.now }
+        ensures { result ≡ ended closes pauses self.kind n (reach_of self.kind self.format (drop n ahead.now)) }
+    {
+        let (_, inside) = ahead.split_at(n);
+        match self.reach(inside) {
+            Reach::Closes(m) => Ok((closes, n + m)),
+            Reach::Pauses(m) => Ok((pauses, n + m)),
+            Reach::Ends => Err(Miss::Fails(unterminated(self.kind.delimiter), 0, n)),
+        }
     }
 }
 
 // A string of a kind.
-fn string(kind: StringKind, format: bool, ahead: &[u8]) -> Found
-    requires { begins (delimiter_of kind) ahead.now ≡ true }
-    ensures { result ≡ string_of kind format ahead.now }
+#[tactic(auto, using(crate::proofs::Ended::ended_opened))]
+fn string(over: OverString, ahead: &[u8]) -> Found
+    requires { begins (delimiter_of over.kind) ahead.now ≡ true }
+    ensures { result ≡ string_of over.kind over.format ahead.now }
 {
-    let n = kind.delimiter().len();
-    opened(kind, n, reach(kind, format, &ahead[n..]))
-}
-
-// A format string from the `}}` of its interpolation on.
-fn resumed(kind: StringKind, reach: Reach) -> Found
-    requires { 2 + reaches reach < 18446744073709551616 }
-    ensures { result ≡ resumed_by kind reach }
-{
-    match reach {
-        Reach::Closes(m) => Found::Lexed(TokenKind::FormatStringEnd, 2 + m),
-        Reach::Pauses(m) => Found::Lexed(TokenKind::FormatStringContinue, 2 + m),
-        Reach::Ends => Found::Fails(unterminated(kind.delimiter), 0, 2),
-    }
+    over.token(
+        over.kind.delimiter().len(),
+        ahead,
+        string_token(over.kind.delimiter),
+        TokenKind::FormatStringStart,
+    )
 }
 
 // What `}}` goes on with in a format string.
@@ -119,7 +101,13 @@ pub(crate) fn continuation(kind: StringKind, ahead: &[u8]) -> Found
     requires { begins closing ahead.now ≡ true }
     ensures { result ≡ continuation_of kind ahead.now }
 {
-    resumed(kind, reach(kind, true, &ahead[2..]))
+    let over = OverString { kind, format: true };
+    over.token(
+        2,
+        ahead,
+        TokenKind::FormatStringEnd,
+        TokenKind::FormatStringContinue,
+    )
 }
 
 // A quote: a format string if the token just before is the identifier f.
@@ -127,8 +115,11 @@ pub(crate) fn quotation(delimiter: StringDelimiter, formats: bool, ahead: &[u8])
     requires { begins (quote_byte delimiter ∷ []) ahead.now ≡ true }
     ensures { result ≡ quotation_of delimiter formats ahead.now }
 {
-    let kind = kind_of(delimiter, ahead);
-    string(kind, formatting(delimiter) && formats, ahead)
+    let over = OverString {
+        kind: kind_of(delimiter, ahead),
+        format: formatting(delimiter) && formats,
+    };
+    string(over, ahead)
 }
 
 // The kind of a format string, by what it begins with.

@@ -1,30 +1,54 @@
 ghost use Rattle.std.specs.Prelude.{◌≡◌, true, false, ◌&&◌, ◌||◌};
 ghost use Rattle.scan.specs.Prefix.{begins};
 ghost use Rattle.token.specs.Strings.{delimiter_of};
-ghost use Rattle.rules.specs.Scans.{character as character_of, line_end, opening, over_comment, over_text};
+ghost use Rattle.rules.specs.Scans.{character as character_of, line_end as line_end_of, opening, over_comment, over_text, width as width_of};
 ghost use Rattle.rules.specs.Strings.{over_string};
+ghost use Rattle.table.specs.Finds.{line_end_length};
 
 use crate::steps::Steps;
-use rules::Move;
+use rules::{Move, Pass};
 use scan::starts;
 use token::StringKind;
 use utf8::character_length;
 
+// How many bytes the line end has that comes first, if one does.
+pub fn line_end(ahead: &[u8]) -> Option<usize>
+    ensures { result ≡ line_end_length ahead.now }
+{
+    if starts(ahead, b"\n") {
+        Some(1)
+    } else if starts(ahead, b"\r\n") {
+        Some(2)
+    } else {
+        None
+    }
+}
+
 // Whether a line end comes first.
 pub fn at_line_end(ahead: &[u8]) -> bool
-    ensures { result ≡ line_end ahead.now }
+    ensures { result ≡ line_end_of ahead.now }
 {
-    starts(ahead, b"\n") || starts(ahead, b"\r\n")
+    line_end(ahead).is_some()
+}
+
+// How many bytes the first character has.
+pub(crate) fn width(ahead: &[u8]) -> usize
+    ensures { result ≡ width_of ahead.now }
+{
+    match ahead {
+        [] => 0,
+        [c, ..] => character_length(*c),
+    }
 }
 
 // A character is passed.
 fn character(ahead: &[u8]) -> Move
     ensures { result ≡ character_of ahead.now }
 {
-    match ahead {
-        [] => Move::Pass(0, false),
-        [first, ..] => Move::Pass(character_length(*first) - 1, false),
-    }
+    Some(Pass {
+        more: width(ahead).saturating_sub(1),
+        escaped: false,
+    })
 }
 
 // A comment goes to the end of its line.
@@ -35,7 +59,7 @@ impl Steps for OverComment {
 
     fn step(&self, _escaped: bool, ahead: &[u8]) -> Move {
         if at_line_end(ahead) {
-            Move::Stop
+            None
         } else {
             character(ahead)
         }
@@ -50,9 +74,12 @@ impl Steps for OverText {
 
     fn step(&self, _escaped: bool, ahead: &[u8]) -> Move {
         if starts(ahead, b"{{{{") {
-            Move::Pass(3, false)
+            Some(Pass {
+                more: 3,
+                escaped: false,
+            })
         } else if at_line_end(ahead) || starts(ahead, b"{{") {
-            Move::Stop
+            None
         } else {
             character(ahead)
         }
@@ -66,11 +93,20 @@ pub struct OverString {
     pub format: bool,
 }
 
-// Whether a string of a kind stops at its delimiter, or a format string at `{{`.
-fn stops(ahead: &[u8], kind: StringKind, format: bool) -> bool
-    ensures { result ≡ (begins (delimiter_of kind) ahead.now || (format && begins opening ahead.now)) }
+// Whether bytes begin with the delimiter of a kind.
+pub(crate) fn delimited(ahead: &[u8], kind: StringKind) -> bool
+    ensures { result ≡ begins (delimiter_of kind) ahead.now }
 {
-    starts(ahead, kind.delimiter().as_bytes()) || format && starts(ahead, b"{{")
+    starts(ahead, kind.delimiter().as_bytes())
+}
+
+impl OverString {
+    // Whether a string stops at its delimiter, or a format string at `{{`.
+    fn stops(self, ahead: &[u8]) -> bool
+        ensures { result ≡ (begins (delimiter_of self.kind) ahead.now || (self.format && begins opening ahead.now)) }
+    {
+        delimited(ahead, self.kind) || self.format && starts(ahead, b"{{")
+    }
 }
 
 impl Steps for OverString {
@@ -78,11 +114,17 @@ impl Steps for OverString {
 
     fn step(&self, escaped: bool, ahead: &[u8]) -> Move {
         if !escaped && self.kind.processes_escape_sequences() && starts(ahead, b"\\") {
-            Move::Pass(0, true)
+            Some(Pass {
+                more: 0,
+                escaped: true,
+            })
         } else if self.format && starts(ahead, b"{{{{") {
-            Move::Pass(3, false)
-        } else if !escaped && stops(ahead, self.kind, self.format) {
-            Move::Stop
+            Some(Pass {
+                more: 3,
+                escaped: false,
+            })
+        } else if !escaped && self.stops(ahead) {
+            None
         } else {
             character(ahead)
         }

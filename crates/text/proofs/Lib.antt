@@ -1,4 +1,3 @@
-mod Turns
 mod Written
 pub mod Seams
 mod Cooks

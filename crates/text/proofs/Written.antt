@@ -1,136 +1,101 @@
 -- Writing piece by piece.
-use Rattle.std.proofs.Common.{◌≡◌, ℕ, ◌+◌, ◌-◌, ◌≤◌, true, leb, List, [], ◌∷◌, ◌++◌, length, take, drop, Ok, Err, Option, Result, sym, refl, ap, ◌∙◌, subst, arith}
-use borrow.Rule.Slice.PartMut.{put_mid}
-use Rattle.std.proofs.lemmas.List.{append_assoc, append-nil, length-append, length-drop, length-take-le, take_at, drop_at, drop-drop, drop_all, take-append-drop, take_rest}
-use Rattle.std.proofs.lemmas.Bool.{leb-true, le-leb, false≢true}
+use Rattle.std.proofs.Common.{◌≡◌, ℕ, ◌+◌, ◌≤◌, List, [], ◌∷◌, ◌++◌, length, take, drop, Ok, Err, Option, Result, sym, refl, ap, ◌∙◌, arith}
+use Rattle.std.proofs.lemmas.List.{append_assoc, append-nil, length-append, length-take-le, take_at, drop_at, drop-drop, take-append-drop}
 use Rattle.unescape.specs.Escapes.{Fed, Move, before, emit, feed, move, onward}
 use Rattle.unescape.specs.Moves.{given, after}
 use Rattle.unescape.specs.declared.record.Escape.{Escape}
 use Rattle.unescape.specs.declared.record.State.{State}
 use Rattle.unescape.proofs.Feeds.{behind, feed_append, before_before}
-use Rattle.text.specs.Fedby.{bytes_of, fits, onto, state_after}
+use Rattle.text.specs.Fedby.{bytes_of, onto, over, summed}
 
--- what fits is no longer than the room
-pub fits_bytes : (r : Result Fed Escape) (room : ℕ) → fits r room ≡ true → length (bytes_of r) ≤ room
-fits_bytes (Ok f) room h = leb-true (length f.bytes) room h
-fits_bytes (Err e) room h = absurd (false≢true h)
+-- nothing written, and one part behind the other
+pub over_none : (at : ℕ) (out : List ℕ) → over at [] out ≡ out
+over_none at out = take-append-drop at out
+
+pub over_start : (bs out : List ℕ) → over 0 bs out ≡ onto bs out
+over_start bs [] = refl
+over_start bs (o ∷ out) = refl
+
+over_on : (at : ℕ) (xs ys out : List ℕ) → at + length xs ≤ length out → over (at + length xs) ys (over at xs out) ≡ over at (xs ++ ys) out
+over_on at xs ys out h =
+    let front : List ℕ = take at out ++ xs in
+    let rest : List ℕ = drop (length xs) (drop at out) in
+    let shape : over at xs out ≡ front ++ rest = sym (append_assoc (take at out) xs rest) in
+    let count : length front ≡ at + length xs = length-append (take at out) xs ∙ ap (λ k. k + length xs) (length-take-le at out (omega arith)) in
+    (λ i. take (at + length xs) (shape i) ++ onto ys (drop (at + length xs) (shape i)))
+    ∙ (λ i. take_at front rest (at + length xs) count i ++ onto ys (drop_at front rest (at + length xs) count i))
+    ∙ append_assoc (take at out) xs (onto ys rest)
+    ∙ ap (λ l. take at out ++ l)
+    (sym (append_assoc xs ys (drop (length ys) rest)) ∙ ap (λ l. (xs ++ ys) ++ l) (drop-drop (length ys) (length xs) (drop at out) ∙ ap (λ k. drop k (drop at out)) (sym (length-append xs ys))))
 
 -- one character
-abbrev emitted_by : Result (Option ℕ) Escape → List ℕ
-emitted_by (Ok o) = emit o
-emitted_by (Err e) = []
+module _ (s t : State) (c : ℕ) (w : t ≡ after s (move s c)) (at : ℕ) where
+  pub stepped : (o : Option ℕ) → Ok o ≡ given (move s c) → (summed at (feed s (c ∷ [])) ≡ Ok (t, at + length (emit o))) × (bytes_of (feed s (c ∷ [])) ≡ emit o)
+  stepped o e = by (move s c) e w
+    where
+      by : (m : Result Move Escape) → Ok o ≡ given m → t ≡ after s m → (summed at (onward m (λ u. feed u [])) ≡ Ok (t, at + length (emit o))) × (bytes_of (onward m (λ u. feed u [])) ≡ emit o)
+      by (Ok m) e w =
+          let q : m.out ≡ o = cc in
+          let b : emit m.out ++ [] ≡ emit o = append-nil (emit m.out) ∙ ap emit q in
+          ((λ i. Ok (sym w i, at + length (b i))), b)
+      by (Err x) e w = absurd (let z : ◌≡◌ {A = ℕ} 0 1 = cc in omega arith)
 
-one_bytes : (s : State) (c : ℕ) (g : Result (Option ℕ) Escape) → g ≡ given (move s c) → bytes_of (feed s (c ∷ [])) ≡ emitted_by g
-one_bytes s c g e = by (move s c) ∙ ap emitted_by (sym e)
-  where
-    by : (m : Result Move Escape) → bytes_of (onward m (λ t. feed t [])) ≡ emitted_by (given m)
-    by (Ok m) = append-nil (emit m.out)
-    by (Err x) = refl
+  pub stepped_err : (x : Escape) → Err x ≡ given (move s c) → summed at (feed s (c ∷ [])) ≡ Err x
+  stepped_err x e = by (move s c) e
+    where
+      by : (m : Result Move Escape) → Err x ≡ given m → summed at (onward m (λ u. feed u [])) ≡ Err x
+      by (Ok m) e = absurd (let z : ◌≡◌ {A = ℕ} 0 1 = cc in omega arith)
+      by (Err y) e = let q : y ≡ x = cc in ap Err q
 
-pub one_state : (s t : State) (c : ℕ) → t ≡ after s (move s c) → t ≡ state_after s (feed s (c ∷ []))
-one_state s t c e = e ∙ by (move s c)
-  where
-    by : (m : Result Move Escape) → after s m ≡ state_after s (onward m (λ u. feed u []))
-    by (Ok m) = refl
-    by (Err x) = refl
+-- what the characters before those to come gave is written from a place on, if it fits
+pub record Sofar (from at : ℕ) (s : State) (cs out start : List ℕ) (whole : Result Fed Escape) : Type 0 where
+  pub written : List ℕ
+  pub front : before written (feed s cs) ≡ whole
+  pub place : at ≡ from + length written
+  pub lies : at ≤ length start → out ≡ over from written start
+  pub same : length out ≡ length start
 
-pub one_given : (s : State) (c : ℕ) (o : Option ℕ) → Ok o ≡ given (move s c) → bytes_of (feed s (c ∷ [])) ≡ emit o
-one_given s c o e = one_bytes s c (Ok o) e
-
-pub one_refused : (s : State) (c : ℕ) (x : Escape) → Err x ≡ given (move s c) → bytes_of (feed s (c ∷ [])) ≡ []
-one_refused s c x e = one_bytes s c (Err x) e
-
--- a part of a buffer from `at` on, and the buffer once the part is written
-pub part_length : (at : ℕ) (out : List ℕ) → length (take (length out - at) (drop at out)) ≡ length out - at
-part_length at out = ap length (take_rest out at) ∙ length-drop at out
-
-pub part_back : (at : ℕ) (out bs sub : List ℕ) → length bs ≤ length out - at → sub ≡ onto bs (take (length out - at) (drop at out)) → put_mid at (length out - at) out sub ≡ take at out ++ onto bs (drop at out)
-part_back at out bs sub h e =
-    ap (λ l. take at out ++ (sub ++ l)) (drop_all (length out - at) (drop at out) (omega (arith, length-drop at out)))
-    ∙ ap (λ l. take at out ++ l) (append-nil sub ∙ e ∙ ap (onto bs) (take_rest out at))
-
--- `at` bytes of the whole are written, and the characters to come give the rest
-pub record Sofar (at : ℕ) (s : State) (cs : List ℕ) (out start : List ℕ) (whole : Result Fed Escape) : Type 0 where
-  pub within : at ≤ length out
-  pub front : before (take at out) (feed s cs) ≡ whole
-  pub back : drop at out ≡ drop at start
-  pub enough : fits whole (length out) ≡ true
-
-pub sofar_start : (s : State) (cs out : List ℕ) → fits (feed s cs) (length out) ≡ true → Sofar 0 s cs out out (feed s cs)
-sofar_start s cs out h = record { within = omega arith; front = by (feed s cs); back = refl; enough = h }
+pub sofar_start : (at : ℕ) (s : State) (cs out : List ℕ) → Sofar at at s cs out out (feed s cs)
+sofar_start at s cs out = record { written = []; front = by (feed s cs); place = omega arith; lies = λ _. sym (over_none at out); same = refl }
   where
     by : (r : Result Fed Escape) → before [] r ≡ r
     by (Ok f) = refl
     by (Err e) = refl
 
--- one piece more is written
-module _ {at : ℕ} {s : State} {out start : List ℕ} {whole : Result Fed Escape} (xs ys : List ℕ) (so : Sofar at s (xs ++ ys) out start whole) where
-  split : before (take at out) (behind (feed s xs) (λ t. feed t ys)) ≡ whole
-  split = ap (before (take at out)) (sym (feed_append s xs ys)) ∙ so.front
+module _ {from at : ℕ} {s : State} {out start : List ℕ} {whole : Result Fed Escape} (xs ys : List ℕ) (so : Sofar from at s (xs ++ ys) out start whole) where
+  split : before so.written (behind (feed s xs) (λ t. feed t ys)) ≡ whole
+  split = ap (before so.written) (sym (feed_append s xs ys)) ∙ so.front
 
-  front_length : length (take at out) ≡ at
-  front_length = length-take-le at out so.within
-
-  -- it fits what is left of the buffer
-  pub piece_fits : fits (feed s xs) (length out - at) ≡ true
-  piece_fits = by (feed s xs) split
+  -- one piece more is written
+  pub sofar_on : (t : State) (n : ℕ) (next : List ℕ) → summed at (feed s xs) ≡ Ok (t, n) → (n ≤ length out → next ≡ over at (bytes_of (feed s xs)) out) → length next ≡ length out → Sofar from n t ys next start whole
+  sofar_on t n next g w l = by (feed s xs) g w split
     where
-      room : (f : Fed) (r : Result Fed Escape) → before (take at out) (before f.bytes r) ≡ whole → leb (length f.bytes) (length out - at) ≡ true
-      room f (Ok g) e =
-          let h = fits_bytes whole (length out) so.enough in
-          let n : length (bytes_of whole) ≡ length (take at out) + (length f.bytes + length g.bytes) =
-          ap (λ w. length (bytes_of w)) (sym e) ∙ length-append (take at out) (f.bytes ++ g.bytes) ∙ ap (λ k. length (take at out) + k) (length-append f.bytes g.bytes) in
-          le-leb (length f.bytes) (length out - at) (omega (arith, h, n, front_length, so.within))
-      room f (Err x) e = absurd (false≢true (ap (λ w. fits w (length out)) e ∙ so.enough))
+      by : (r : Result Fed Escape) → summed at r ≡ Ok (t, n) → (n ≤ length out → next ≡ over at (bytes_of r) out) → before so.written (behind r (λ u. feed u ys)) ≡ whole → Sofar from n t ys next start whole
+      by (Ok f) g w e =
+          let p : (f.state, at + length f.bytes) ≡ (t, n) = cc in
+          let q : f.state ≡ t = ap (λ (z : State × ℕ). z.0) p in
+          let k : at + length f.bytes ≡ n = ap (λ (z : State × ℕ). z.1) p in
+          record {
+            written = so.written ++ f.bytes;
+            front = ap (λ u. before (so.written ++ f.bytes) (feed u ys)) (sym q) ∙ sym (before_before so.written f.bytes (feed f.state ys)) ∙ e;
+            place = omega (arith, so.place, k, length-append so.written f.bytes);
+            lies = λ h.
+                let a : at ≤ length start = omega (arith, k) in
+                w (omega (arith, so.same)) ∙ (λ i. over (so.place i) f.bytes (so.lies a i)) ∙ over_on from so.written f.bytes start (omega (arith, so.place));
+            same = l ∙ so.same;
+          }
+      by (Err x) g w e = absurd (let z : ◌≡◌ {A = ℕ} 0 1 = cc in omega arith)
 
-      by : (r : Result Fed Escape) → before (take at out) (behind r (λ t. feed t ys)) ≡ whole → fits r (length out - at) ≡ true
-      by (Ok f) e = room f (feed f.state ys) e
-      by (Err x) e = absurd (false≢true (ap (λ w. fits w (length out)) e ∙ so.enough))
-
-  pub piece_part : length (bytes_of (feed s xs)) ≤ length out - at
-  piece_part = fits_bytes (feed s xs) (length out - at) piece_fits
-
-  pub piece_room : at + length (bytes_of (feed s xs)) ≤ length out
-  piece_room = omega (arith, piece_part, so.within)
-
-  -- and what is behind it gives the rest
-  pub sofar_on : (t : State) (n : ℕ) (next : List ℕ) → n ≡ length (bytes_of (feed s xs)) → t ≡ state_after s (feed s xs) → next ≡ take at out ++ onto (bytes_of (feed s xs)) (drop at out) → Sofar (at + n) t ys next start whole
-  sofar_on t n next c m e = record {
-    within = omega (arith, same, piece_room);
-    front = ap (λ l. before l (feed t ys)) taken ∙ (ap (λ u. before (take at out ++ bs) (feed u ys)) m ∙ joined (feed s xs) split piece_fits);
-    back = dropped;
-    enough = subst (λ k. fits whole k ≡ true) (sym same) so.enough;
-  }
+  -- or it is refused, and so is the whole
+  pub sofar_stop : (x : Escape) → summed at (feed s xs) ≡ Err x → whole ≡ Err x
+  sofar_stop x g = by (feed s xs) g split
     where
-      bs : List ℕ
-      bs = bytes_of (feed s xs)
-
-      joined : (r : Result Fed Escape) → before (take at out) (behind r (λ u. feed u ys)) ≡ whole → fits r (length out - at) ≡ true → before (take at out ++ bytes_of r) (feed (state_after s r) ys) ≡ whole
-      joined (Ok f) q h = sym (before_before (take at out) f.bytes (feed f.state ys)) ∙ q
-      joined (Err x) q h = absurd (false≢true h)
-
-      shape : next ≡ (take at out ++ bs) ++ drop (at + n) out
-      shape =
-          e ∙ ap (λ l. take at out ++ (bs ++ l)) (drop-drop (length bs) at out ∙ ap (λ k. drop (at + k) out) (sym c)) ∙ sym (append_assoc (take at out) bs (drop (at + n) out))
-
-      count : length (take at out ++ bs) ≡ at + n
-      count = length-append (take at out) bs ∙ (let z : length (take at out) + length bs ≡ at + n = omega (arith, front_length, c) in z)
-
-      taken : take (at + n) next ≡ take at out ++ bs
-      taken = ap (take (at + n)) shape ∙ take_at (take at out ++ bs) (drop (at + n) out) (at + n) count
-
-      same : length next ≡ length out
-      same = ap length shape ∙ length-append (take at out ++ bs) (drop (at + n) out) ∙ (let z : length (take at out ++ bs) + length (drop (at + n) out) ≡ length out = omega (arith, count, length-drop (at + n) out, piece_room, c) in z)
-
-      dropped : drop (at + n) next ≡ drop (at + n) start
-      dropped =
-          ap (drop (at + n)) shape ∙ drop_at (take at out ++ bs) (drop (at + n) out) (at + n) count
-          ∙ (sym (drop-drop n at out) ∙ (ap (drop n) so.back ∙ drop-drop n at start))
+      by : (r : Result Fed Escape) → summed at r ≡ Err x → before so.written (behind r (λ u. feed u ys)) ≡ whole → whole ≡ Err x
+      by (Ok f) g e = absurd (let z : ◌≡◌ {A = ℕ} 0 1 = cc in omega arith)
+      by (Err y) g e = let q : y ≡ x = cc in sym e ∙ ap Err q
 
 -- at the end all is written
-pub sofar_end : {at : ℕ} {s : State} {out start : List ℕ} {whole : Result Fed Escape} → Sofar at s [] out start whole → (d : State) → (at ≡ length (bytes_of whole)) × (s ≡ state_after d whole) × (out ≡ onto (bytes_of whole) start)
-sofar_end {at} {s} {out} {start} {whole} so d =
-    let e : Ok (record { state = s; bytes = take at out ++ [] }) ≡ whole = so.front in
-    let b : take at out ≡ bytes_of whole = sym (append-nil (take at out)) ∙ ap bytes_of e in
-    let n : at ≡ length (bytes_of whole) = sym (length-take-le at out so.within) ∙ ap length b in
-    (n, ap (state_after d) e, sym (take-append-drop at out) ∙ (λ i. b i ++ so.back i) ∙ ap (λ k. bytes_of whole ++ drop k start) n)
+pub sofar_end : {from at : ℕ} {s : State} {out start : List ℕ} {whole : Result Fed Escape} → Sofar from at s [] out start whole → (summed from whole ≡ Ok (s, at)) × (at ≤ length start → out ≡ over from (bytes_of whole) start)
+sofar_end {from} {at} {s} {out} {start} {whole} so =
+    let e : Ok (record { state = s; bytes = so.written }) ≡ whole = ap (λ bs. Ok record { state = s; bytes = bs }) (sym (append-nil so.written)) ∙ so.front in
+    (ap (summed from) (sym e) ∙ ap (λ n. Ok (s, n)) (sym so.place), λ h. so.lies h ∙ ap (λ r. over from (bytes_of r) start) e)

@@ -1,5 +1,5 @@
 -- What unescaping makes of a piece, by its parts.
-use Rattle.std.specs.Prelude.{ℕ, ◌+◌, Bool, false, List, [], ◌++◌, length, drop, Ok, Err, Result, nat_le}
+use Rattle.std.specs.Prelude.{ℕ, ◌+◌, List, [], ◌++◌, length, take, drop, Ok, Err, Result}
 use Rattle.unescape.specs.Escapes.{Fed}
 use Rattle.unescape.specs.declared.record.Escape.{Escape}
 use Rattle.unescape.specs.declared.record.State.{State}
@@ -9,24 +9,18 @@ abbrev pub summed : ℕ → Result Fed Escape → Result (State × ℕ) Escape
 summed n (Ok f) = Ok (f.state, n + length f.bytes)
 summed n (Err e) = Err e
 
--- the state behind it; where it is refused, the one given
-abbrev pub state_after : State → Result Fed Escape → State
-state_after s (Ok f) = f.state
-state_after s (Err e) = s
-
 -- the bytes it gives; none where it is refused
 abbrev pub bytes_of : Result Fed Escape → List ℕ
 bytes_of (Ok f) = f.bytes
 bytes_of (Err e) = []
 
--- it is not refused, and fits
-abbrev pub fits : Result Fed Escape → ℕ → Bool
-fits (Ok f) room = nat_le (length f.bytes) room
-fits (Err e) room = false
-
 -- bytes written over the start of others
 abbrev pub onto : List ℕ → List ℕ → List ℕ
 onto bs out = bs ++ drop (length bs) out
+
+-- bytes written over others from a place on
+abbrev pub over : ℕ → List ℕ → List ℕ → List ℕ
+over at bs out = take at out ++ onto bs (drop at out)
 
 -- the length of a text, or its refusal
 abbrev pub sized : Result (List ℕ) Escape → Result ℕ Escape
@@ -37,8 +31,3 @@ sized (Err e) = Err e
 abbrev pub from_ok : Result (List ℕ) Escape → List ℕ
 from_ok (Ok bs) = bs
 from_ok (Err e) = []
-
--- a text is not refused, and fits
-abbrev pub fitting : Result (List ℕ) Escape → ℕ → Bool
-fitting (Ok bs) room = nat_le (length bs) room
-fitting (Err e) room = false

@@ -1,5 +1,6 @@
 -- String literals: which quotes they have, and what stands between.
 use Rattle.std.specs.Prelude.{ℕ, ◌-◌, ◌*◌, Bool, true, false, cond, ◌&&◌, List, [], ◌∷◌, length, take, drop, Some, None, Option, nat_le}
+use Rattle.std.specs.List.{find}
 use Rattle.scan.specs.Prefix.{begins}
 use Rattle.token.specs.Strings.{delimiter_of}
 use Rattle.token.specs.declared.kinds.StringDelimiter.{StringDelimiter}
@@ -18,8 +19,7 @@ quotes = three QuoteDouble ∷ one QuoteDouble ∷ three QuoteSingle ∷ one Quo
 
 -- the first whose delimiter the bytes begin with
 abbrev pub first_of : List StringKind → List ℕ → Option StringKind
-first_of [] bs = None
-first_of (k ∷ ks) bs = cond (begins (delimiter_of k) bs) (Some k) (first_of ks bs)
+first_of ks bs = find (λ k. begins (delimiter_of k) bs) ks
 
 -- the bytes end with the delimiter, and are at least twice as long
 abbrev pub closed_by : List ℕ → List ℕ → Bool

@@ -7,20 +7,10 @@ use Rattle.token.specs.declared.kinds.StringKind.{StringKind}
 use Rattle.token.specs.declared.kinds.TokenKind.TheVariants as kind
 use Rattle.token.specs.declared.place.Token.{Token}
 use Rattle.source.specs.Sources.{lexeme_in}
+use Rattle.unescape.specs.Numbers.{escape_number}
 use Rattle.unescape.specs.declared.record.Escape.{Escape}
-use Rattle.unescape.specs.declared.record.Escape.TheVariants.{InvalidEscapeSequence, UnicodeEscapeDelimiter, UnicodeEscapeEmpty, UnicodeEscapeLength, UnicodeEscapeRange, UnicodeEscapeCharacter, UnicodeEscapeUnterminated}
 use Rattle.text.specs.Cooked.{cooked}
 use Rattle.text.specs.Quotes.{literal}
-
--- the numbers of the escape faults
-abbrev pub escape_number : Escape → ℕ
-escape_number InvalidEscapeSequence = 17
-escape_number UnicodeEscapeDelimiter = 23
-escape_number UnicodeEscapeEmpty = 24
-escape_number UnicodeEscapeLength = 25
-escape_number UnicodeEscapeRange = 26
-escape_number UnicodeEscapeCharacter = 27
-escape_number UnicodeEscapeUnterminated = 28
 
 abbrev pub on_cooked : Token → Result (List ℕ) Escape → Told (List ℕ)
 on_cooked t (Ok bs) = gave bs

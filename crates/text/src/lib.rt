@@ -5,6 +5,7 @@
 mod call;
 mod cooking;
 mod feeding;
+mod literal;
 mod quote;
 
 pub use call::text;

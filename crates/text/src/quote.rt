@@ -1,30 +1,31 @@
 ghost use Rattle.std.specs.Prelude.{◌≡◌, ◌≤◌, true, length, IfSome, Some, None, MatchOption};
 ghost use Rattle.scan.specs.Prefix.{begins};
 ghost use Rattle.token.specs.Strings.{delimiter_of};
-ghost use Rattle.text.specs.Quotes.{closed_by, first_of, literal as literal_of, one as one_of, quotes, stripped, three as three_of};
+ghost use Rattle.text.specs.Quotes.{closed_by, first_of, literal as literal_of, quotes, stripped};
 
+use crate::literal::Literal;
 use scan::starts;
 use token::{StringDelimiter, StringKind};
 
-// A kind of string with three quotes.
-fn three(delimiter: StringDelimiter) -> StringKind
-    ensures { result ≡ three_of delimiter }
-{
+// The quotes, in the order in which they are tried.
+const QUOTES: [StringKind; 4] = [
     StringKind {
-        delimiter,
+        delimiter: StringDelimiter::QuoteDouble,
         indented: true,
-    }
-}
-
-// A kind of string with one quote.
-fn one(delimiter: StringDelimiter) -> StringKind
-    ensures { result ≡ one_of delimiter }
-{
+    },
     StringKind {
-        delimiter,
+        delimiter: StringDelimiter::QuoteDouble,
         indented: false,
-    }
-}
+    },
+    StringKind {
+        delimiter: StringDelimiter::QuoteSingle,
+        indented: true,
+    },
+    StringKind {
+        delimiter: StringDelimiter::QuoteSingle,
+        indented: false,
+    },
+];
 
 // Whether bytes begin with the delimiter of a kind.
 fn opens(bytes: &[u8], kind: StringKind) -> bool
@@ -37,17 +38,7 @@ fn opens(bytes: &[u8], kind: StringKind) -> bool
 fn quote(bytes: &[u8]) -> Option<StringKind>
     ensures { result ≡ first_of quotes bytes.now }
 {
-    if opens(bytes, three(StringDelimiter::QuoteDouble)) {
-        Some(three(StringDelimiter::QuoteDouble))
-    } else if opens(bytes, one(StringDelimiter::QuoteDouble)) {
-        Some(one(StringDelimiter::QuoteDouble))
-    } else if opens(bytes, three(StringDelimiter::QuoteSingle)) {
-        Some(three(StringDelimiter::QuoteSingle))
-    } else if opens(bytes, one(StringDelimiter::QuoteSingle)) {
-        Some(one(StringDelimiter::QuoteSingle))
-    } else {
-        None
-    }
+    QUOTES.iter().copied().find(|kind| opens(bytes, *kind))
 }
 
 // Whether bytes end with the delimiter of a kind, and are at least twice as long.
@@ -72,19 +63,19 @@ fn inner(lexeme: &str, kind: StringKind) -> &str
     &lexeme[n..end]
 }
 
-// A literal's kind and what stands between its delimiters.
-pub(crate) fn literal(lexeme: &str) -> Option<(StringKind, &str)>
-    ensures is { MatchOption result (literal_of lexeme.now ≡ None) (λ p. literal_of lexeme.now ≡ Some (p.0, p.1.now)) }
-    ensures short { IfSome result (λ p. length p.1.now ≤ length lexeme.now) }
-{
-    match quote(lexeme.as_bytes()) {
-        None => None,
-        Some(kind) => {
-            if closes(lexeme.as_bytes(), kind) {
-                Some((kind, inner(lexeme, kind)))
-            } else {
-                None
-            }
+impl<'a> Literal<'a> {
+    // The literal that a lexeme is, if it is one.
+    pub(crate) fn of(lexeme: &'a str) -> Option<Self>
+        requires { length lexeme.now ≤ 65536 }
+        ensures { MatchOption result (literal_of lexeme.now ≡ None) (λ l. literal_of lexeme.now ≡ Some (l.kind, l.inner.now)) }
+    {
+        let kind = quote(lexeme.as_bytes())?;
+        if !closes(lexeme.as_bytes(), kind) {
+            return None;
         }
+        Some(Literal {
+            kind,
+            inner: inner(lexeme, kind),
+        })
     }
 }

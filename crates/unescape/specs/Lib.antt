@@ -1,3 +1,4 @@
 pub mod Sane
 pub mod Escapes
 pub mod Moves
+pub mod Numbers

@@ -2,6 +2,7 @@
 
 #![tactic(auto)]
 
+mod cause;
 mod record;
 mod steps;
 

@@ -45,7 +45,7 @@ impl Unescape {
         }
     }
 
-    // Gives a character and goes back to the beginning.
+    // Gives a character and goes back to the beginning. It stays beside `go`: one method for both would have every row of the step write out a half that the row does not have.
     fn give(&mut self, c: char) -> Result<Option<char>, Escape>
         ensures gives { result ≡ Ok (Some c) }
         ensures moves { self.new.state ≡ State.Initial }
@@ -64,7 +64,7 @@ impl Unescape {
         Ok(None)
     }
 
-    // The closing brace behind a value.
+    // The closing brace behind a value. `value` and `digits` stay two numbers: a struct of them would only be made and taken apart, in the step, in `widen` and in each definition of a move.
     fn close(&mut self, value: u32, digits: u32) -> Result<Option<char>, Escape>
         ensures gives { result ≡ given (closed value digits) }
         ensures moves { self.new.state ≡ after self.old.state (closed value digits) }
@@ -72,19 +72,18 @@ impl Unescape {
         if digits == 0 {
             return Err(Escape::UnicodeEscapeEmpty);
         }
-        match char::from_u32(value) {
-            Some(c) => self.give(c),
-            None => Err(Escape::UnicodeEscapeRange),
-        }
+        let c = char::from_u32(value).ok_or(Escape::UnicodeEscapeRange)?;
+        self.give(c)
     }
 
     // A character between the braces that does not close them.
+    #[tactic(auto, using(crate::proofs::Digits::few, crate::proofs::Digits::one_more))]
     fn widen(&mut self, value: u32, digits: u32, c: char) -> Result<Option<char>, Escape>
         requires { sane (State.UnicodeValue value digits) ≡ true }
         ensures gives { result ≡ given (widened value digits c) }
         ensures moves { self.new.state ≡ after self.old.state (widened value digits c) }
     {
-        let Some(digit) = hex(c) else {
+        let Some(digit) = c.to_digit(16) else {
             return Err(Escape::UnicodeEscapeCharacter);
         };
         if digits >= 6 {
@@ -107,18 +106,5 @@ impl Unescape {
                 Escape::UnicodeEscapeUnterminated,
             ),
         }
-    }
-}
-
-// The value of a hexadecimal digit.
-fn hex(c: char) -> Option<u32>
-    ensures is { result ≡ (if digit c then Some (digit_value c) else None) }
-    ensures small { IfSome result (λ d. d < 16) }
-{
-    match c {
-        '0'..='9' => Some(c as u32 - '0' as u32),
-        'A'..='F' => Some(c as u32 - 'A' as u32 + 10),
-        'a'..='f' => Some(c as u32 - 'a' as u32 + 10),
-        _ => None,
     }
 }

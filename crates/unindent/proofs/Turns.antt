@@ -1,29 +1,25 @@
 -- One line after the other.
-use Rattle.std.proofs.Common.{◌≡◌, ℕ, zero, suc, ◌<◌, ◌≤◌, Bool, true, false, cond, ◌||◌, eqb, leb, ◌⊎◌, List, [], ◌∷◌, ◌++◌, length, take, drop, IsUtf8, sym, refl, ap, ◌∙◌, subst, inl, inr, arith}
+use Rattle.std.proofs.Common.{◌≡◌, ℕ, zero, suc, ◌<◌, ◌≤◌, Bool, true, false, cond, ◌||◌, eqb, List, [], ◌∷◌, ◌++◌, length, take, drop, Some, None, IsUtf8, Option, sym, refl, ap, ◌∙◌, subst, arith}
 use lib.Utf8.{encodes}
 use Rattle.std.specs.List.{flat_map, prefix_len}
 use Rattle.std.proofs.lemmas.List.{append-nil, length-drop}
-use Rattle.std.proofs.lemmas.Bool.{and_parts, or_cases, both_ways, leb-true, ne_eqb, false≢true}
+use Rattle.std.proofs.lemmas.Bool.{and_parts, ne_eqb}
+use Rattle.std.proofs.lemmas.Bool.Decides.{nat_tests}
 use Rattle.std.proofs.lemmas.Str.{encode_ascii, IsUtf8-append, IsUtf8-drop, IsUtf8-nil, IsUtf8-take}
 use Rattle.scan.specs.Classes.{gap}
 use Rattle.unindent.specs.Cuts.{first_line_length}
-use Rattle.unindent.specs.Lines.{blank, ends_with_crlf, grows, indentation, lines, none, piece, pieces, roomy, all_roomy, unindented}
-use Rattle.unindent.specs.Left.{left, whole}
+use Rattle.unindent.specs.Lines.{blank, ends_with_crlf, grows, indentation, lines, none, piece, pieces, roomy, all_roomy, all_roomy_for, unindented}
+use Rattle.unindent.specs.Left.{left, left_of, whole}
 use Rattle.unindent.specs.declared.record.Pieces.{Pieces}
 use Rattle.unindent.proofs.Shared.{all_room}
 use Rattle.unindent.proofs.Split.{first_line, cut_bound, gap_bound, length_some}
 
 pub not_empty : (n : ℕ) → false ≡ eqb n 0 → 0 < n
-not_empty zero e = absurd (false≢true e)
-not_empty (suc n) e = omega arith
+not_empty n e = grind (arith, nat_tests)
 
 -- a line that is not blank has the room
 pub room_there : (n : ℕ) (l : List ℕ) → roomy n l ≡ true → false ≡ blank l → n ≤ prefix_len gap l
-room_there n l h b = by (or_cases (blank l) (leb n (prefix_len gap l)) h)
-  where
-    by : (blank l ≡ true) ⊎ (leb n (prefix_len gap l) ≡ true) → n ≤ prefix_len gap l
-    by (inl e) = absurd (both_ways (blank l) (sym b) e)
-    by (inr e) = leb-true n (prefix_len gap l) e
+room_there n l h b = grind (arith, nat_tests)
 
 no_lines : (bs : List ℕ) → none (lines bs) ≡ eqb (length bs) 0
 no_lines [] = refl
@@ -44,12 +40,23 @@ module _ (n : ℕ) (rest line after : List ℕ) (h : 0 < length rest) (l : line 
   pub line_room : all_roomy n (lines rest) ≡ true → roomy n line ≡ true
   line_room e = (parts e).0
 
-  pub after_room : all_roomy n (lines rest) ≡ true → all_roomy n (lines after) ≡ true
+  after_room : all_roomy n (lines rest) ≡ true → all_roomy n (lines after) ≡ true
   after_room e = (parts e).1
 
-  pub next_piece : (first last : Bool) (p : List ℕ) → last ≡ eqb (length after) 0 → p ≡ piece first last n line → pieces first n (lines rest) ≡ p ∷ pieces false n (lines after)
+  next_piece : (first last : Bool) (p : List ℕ) → last ≡ eqb (length after) 0 → p ≡ piece first last n line → pieces first n (lines rest) ≡ p ∷ pieces false n (lines after)
   next_piece first last p t e =
       ap (pieces first n) split ∙ ap (λ q. q ∷ pieces false n (lines after)) (ap (λ b. piece first b n line) (no_lines after ∙ sym t) ∙ sym e)
+
+  -- and so where it is told that n bytes are to be removed
+  module _ (o : Option ℕ) (s : o ≡ Some n) where
+    pub line_room_of : all_roomy_for o (lines rest) ≡ true → roomy n line ≡ true
+    line_room_of r = line_room (sym (ap (λ i. all_roomy_for i (lines rest)) s) ∙ r)
+
+    pub after_room_of : all_roomy_for o (lines rest) ≡ true → all_roomy_for o (lines after) ≡ true
+    after_room_of r = ap (λ i. all_roomy_for i (lines after)) s ∙ after_room (sym (ap (λ i. all_roomy_for i (lines rest)) s) ∙ r)
+
+    pub next_left : (first last : Bool) (p : List ℕ) → last ≡ eqb (length after) 0 → p ≡ piece first last n line → left_of o first rest ≡ p ∷ left_of o false after
+    next_left first last p t e = ap (λ i. left_of i first rest) s ∙ next_piece first last p t e ∙ ap (λ i. p ∷ left_of i false after) (sym s)
 
 encodes_low : (c : ℕ) (cs : List ℕ) → c < 128 → encodes cs ≡ cs → encodes (c ∷ cs) ≡ c ∷ cs
 encodes_low c cs h e = (λ i. encode_ascii c h i ++ e i)
@@ -79,7 +86,7 @@ texts (suc k) first n (b ∷ bs) l u r =
     let line : List ℕ = take m all in
     let after : List ℕ = drop m all in
     let h : 0 < length all = omega arith in
-    let c = cut_bound all u h in
+    let c = cut_bound all u in
     let next = next_piece n all line after h refl refl first (eqb (length after) 0) (piece first (eqb (length after) 0) n line) refl refl in
     let shorter : length after ≤ k = omega (arith, length-drop m all, length_some all h) in
     subst (λ ps. IsUtf8 (flat_map (λ p. p) ps)) (sym next)
@@ -91,12 +98,12 @@ pub unindented_text : (bs : List ℕ) → IsUtf8 bs → IsUtf8 (unindented bs)
 unindented_text bs u = texts (length bs) true (length (indentation (lines bs))) bs (omega arith) u (all_room (lines bs))
 
 pub pieces_text : (p : Pieces) → IsUtf8 p.rest.now → IsUtf8 (flat_map (λ q. q) (left p))
-pieces_text p u = by p.indented
+pieces_text p u = by p.indent p.room
   where
     whole_text : (bs : List ℕ) → IsUtf8 bs → IsUtf8 (flat_map (λ q. q) (whole bs))
     whole_text [] u = u
     whole_text (b ∷ bs) u = subst IsUtf8 (sym (append-nil (b ∷ bs))) u
 
-    by : (t : Bool) → IsUtf8 (flat_map (λ q. q) (cond t (pieces p.first p.indent (lines p.rest.now)) (whole p.rest.now)))
-    by true = texts (length p.rest.now) p.first p.indent p.rest.now (omega arith) u p.room
-    by false = whole_text p.rest.now u
+    by : (o : Option ℕ) → all_roomy_for o (lines p.rest.now) ≡ true → IsUtf8 (flat_map (λ q. q) (left_of o p.first p.rest.now))
+    by None r = whole_text p.rest.now u
+    by (Some n) r = texts (length p.rest.now) p.first n p.rest.now (omega arith) u r

@@ -1,5 +1,5 @@
 -- What pieces a text still has to give.
-use Rattle.std.specs.Prelude.{ℕ, cond, List, [], ◌∷◌}
+use Rattle.std.specs.Prelude.{ℕ, Bool, List, [], ◌∷◌, Some, None, Option}
 use Rattle.unindent.specs.Lines.{lines, pieces}
 use Rattle.unindent.specs.declared.record.Pieces.{Pieces}
 
@@ -8,5 +8,10 @@ abbrev pub whole : List ℕ → List (List ℕ)
 whole [] = []
 whole (b ∷ bs) = (b ∷ bs) ∷ []
 
+-- the lines with n bytes of indentation removed from each, or the text as it stands
+abbrev pub left_of : Option ℕ → Bool → List ℕ → List (List ℕ)
+left_of None first bs = whole bs
+left_of (Some n) first bs = pieces first n (lines bs)
+
 abbrev pub left : Pieces → List (List ℕ)
-left p = cond p.indented (pieces p.first p.indent (lines p.rest.now)) (whole p.rest.now)
+left p = left_of p.indent p.first p.rest.now

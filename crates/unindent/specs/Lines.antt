@@ -70,3 +70,8 @@ roomy n l = blank l || nat_le n (prefix_len gap l)
 abbrev pub all_roomy : ℕ → List (List ℕ) → Bool
 all_roomy n [] = true
 all_roomy n (l ∷ ls) = roomy n l && all_roomy n ls
+
+-- nothing is to be lost where no indentation is removed
+abbrev pub all_roomy_for : Option ℕ → List (List ℕ) → Bool
+all_roomy_for None ls = true
+all_roomy_for (Some n) ls = all_roomy n ls

@@ -8,13 +8,13 @@ ghost use Rattle.unindent.specs.Cuts.{first_line_length};
 use scan::{Gap, InLine, White, common, leading};
 
 // How long the first line is, with its line feed.
+#[tactic(auto, using(crate::proofs::Split::first_length))]
 pub(crate) fn line_length(bytes: &[u8]) -> usize
     ensures is { result ≡ first_line_length bytes.now }
     ensures within { result ≤ length bytes.now }
     ensures some { 0 < length bytes.now → 0 < result }
 {
-    let n = leading::<InLine>(bytes);
-    if n < bytes.len() { n + 1 } else { n }
+    bytes.len().min(leading::<InLine>(bytes) + 1)
 }
 
 // Whether a line holds nothing but white space.
@@ -53,10 +53,7 @@ fn share<'a>(shared: Option<&'a [u8]>, line: &'a [u8]) -> Option<&'a [u8]>
         return shared;
     }
     let run = indent(line);
-    match shared {
-        None => Some(run),
-        Some(v) => Some(meet(v, run)),
-    }
+    Some(shared.map_or(run, |v| meet(v, run)))
 }
 
 // How long the common indentation of a text is.
@@ -64,21 +61,8 @@ pub(crate) fn indentation(text: &[u8]) -> usize
     ensures { result ≡ length (indentation_of (lines_of text.now)) }
 {
     let mut shared: Option<&[u8]> = None;
-    let mut rest = text;
-    while !rest.is_empty() {
-        let (line, after) = rest.split_at(line_length(rest));
+    for line in text.split_inclusive(|b| *b == b'\n') {
         shared = share(shared, line);
-        rest = after;
     }
-    run_length(shared)
-}
-
-// How long a run is, if there is one.
-fn run_length(run: Option<&[u8]>) -> usize
-    ensures { result ≡ length (or_none (option_map (λ x. x.now) run.entry)) }
-{
-    match run {
-        None => 0,
-        Some(run) => run.len(),
-    }
+    shared.map_or(0, |run| run.len())
 }

@@ -44,9 +44,8 @@ impl<'a> Pieces<'a> {
     {
         Pieces {
             rest: text,
-            indented: true,
             first: true,
-            indent: indentation(text.as_bytes()),
+            indent: Some(indentation(text.as_bytes())),
         }
     }
 
@@ -57,9 +56,8 @@ impl<'a> Pieces<'a> {
     {
         Pieces {
             rest: text,
-            indented: false,
             first: true,
-            indent: 0,
+            indent: None,
         }
     }
 
@@ -74,12 +72,12 @@ impl<'a> Pieces<'a> {
         if rest.is_empty() {
             return None;
         }
-        if !self.indented {
+        let Some(n) = self.indent else {
             self.rest = "";
             return Some(rest);
-        }
+        };
         let (line, after) = cut(rest);
-        let piece = piece(line, self.first, after.is_empty(), self.indent);
+        let piece = piece(line, self.first, after.is_empty(), n);
         self.first = false;
         self.rest = after;
         Some(piece)

@@ -8,26 +8,26 @@ use Rattle.stream.proofs.past.glance_past.Goals as goal
 pub loop-t-init : goal.loop-t-init
 loop-t-init g c = going_here _ _ _ _
 
-pub returns-in_err-glance : goal.returns-in_err-glance
-returns-in_err-glance g c =
+pub returns-in_err-t : goal.returns-in_err-t
+returns-in_err-t g c =
     let p = err_from_is_err_and c.from_residual.result c.from_residual.ensures.1 in
     rw (p.1, p.2)
-    (let h = c.in_err-glance.ensures in
+    (let h = c.in_err-t.ensures in
     shown _ _ _ _ c.loop-t.below c.glance.new.self _ c.loop-t.invariant h.gives tt h)
 
-pub returns-in-None : goal.returns-in-None
-returns-in-None g c =
-    let h = subst (λ o. Glances g.S.TokenSource.meaning g.S.TokenSource.stays c.loop-t.below (Ok o) c.glance.new.self) c.in-None.is c.in_ok-glance.ensures in
+pub returns : goal.returns
+returns g c =
+    let h = subst (λ o. Glances g.S.TokenSource.meaning g.S.TokenSource.stays c.loop-t.below (Ok o) c.glance.new.self) c.in_default.is c.in_ok-t.ensures in
     shown _ _ _ _ c.loop-t.below c.glance.new.self (Ok None) c.loop-t.invariant h.gives tt h
 
-pub returns-else-eq : goal.returns-else-eq
-returns-else-eq g c =
-    let h = subst (λ o. Glances g.S.TokenSource.meaning g.S.TokenSource.stays c.loop-t.below (Ok o) c.glance.new.self) c.in-Some.is c.in_ok-glance.ensures in
-    shown _ _ _ _ c.loop-t.below c.glance.new.self (Ok (Some c.in-Some.t)) c.loop-t.invariant h.gives (sym c.if-eq.ensures.answer) h
+pub returns-then-not-is_blank : goal.returns-then-not-is_blank
+returns-then-not-is_blank g c =
+    let h = subst (λ o. Glances g.S.TokenSource.meaning g.S.TokenSource.stays c.loop-t.below (Ok o) c.glance.new.self) c.in-Some.is c.in_ok-t.ensures in
+    shown _ _ _ _ c.loop-t.below c.glance.new.self (Ok (Some c.in-Some.t)) c.loop-t.invariant h.gives (sym c.if-not-is_blank.ensures) h
 
 pub loop-t-preserved : goal.loop-t-preserved
 loop-t-preserved g c =
-    let h = subst (λ o. Glances g.S.TokenSource.meaning g.S.TokenSource.stays c.loop-t.below (Ok o) c.glance.new.self) c.in-Some.is c.in_ok-glance.ensures in
+    let h = subst (λ o. Glances g.S.TokenSource.meaning g.S.TokenSource.stays c.loop-t.below (Ok o) c.glance.new.self) c.in-Some.is c.in_ok-t.ensures in
     going_passes _ _ _ _ c.glance.new.self c.next.new.self c.in-Some.t
     (going_looks _ _ _ _ c.loop-t.below c.glance.new.self c.loop-t.invariant h.leaves h.keeps)
-    (ap tell h.leaves ∙ sym h.gives) (sym c.if-eq.ensures.answer) c.next.ensures.leaves c.next.ensures.steps
+    (ap tell h.leaves ∙ sym h.gives) (sym c.if-not-is_blank.ensures) c.next.ensures.leaves c.next.ensures.steps

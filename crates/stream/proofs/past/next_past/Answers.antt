@@ -8,10 +8,10 @@ loop-t-init g c = going_here _ _ _ _
 
 pub loop-t-preserved : goal.loop-t-preserved
 loop-t-preserved g c =
-    let h = subst (λ o. Nexts g.S.TokenSource.meaning g.S.TokenSource.moves c.loop-t.below (Ok o) c.next.new.self) c.in-Some.is c.in_ok-next.ensures in
-    going_passes _ _ _ _ c.loop-t.below c.next.new.self c.in-Some.t c.loop-t.invariant (sym h.gives) (sym c.if-eq.ensures.answer) h.leaves h.steps
+    let h = subst (λ o. Nexts g.S.TokenSource.meaning g.S.TokenSource.moves c.loop-t.below (Ok o) c.next.new.self) c.in-Some.is c.in_ok-t.ensures in
+    going_passes _ _ _ _ c.loop-t.below c.next.new.self c.in-Some.t c.loop-t.invariant (sym h.gives) (sym c.if-not-is_blank.ensures) h.leaves h.steps
 
-pub returns-in-Some-2 : goal.returns-in-Some-2
-returns-in-Some-2 g c =
-    let h = subst (λ o. Nexts g.S.TokenSource.meaning g.S.TokenSource.moves c.loop-t.below (Ok o) c.next.new.self) c.in-Some.is c.in_ok-next.ensures in
-    past _ _ _ _ c.loop-t.below c.next.new.self (Ok (Some c.in-Some.t)) c.loop-t.invariant h.gives (sym c.if-eq.ensures.answer) h
+pub returns-then-not-is_blank : goal.returns-then-not-is_blank
+returns-then-not-is_blank g c =
+    let h = subst (λ o. Nexts g.S.TokenSource.meaning g.S.TokenSource.moves c.loop-t.below (Ok o) c.next.new.self) c.in-Some.is c.in_ok-t.ensures in
+    past _ _ _ _ c.loop-t.below c.next.new.self (Ok (Some c.in-Some.t)) c.loop-t.invariant h.gives (sym c.if-not-is_blank.ensures) h

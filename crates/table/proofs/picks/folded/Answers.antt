@@ -3,7 +3,7 @@ use Rattle.std.proofs.lemmas.List.{take_rest}
 use Rattle.std.specs.List.{prefix_len}
 use Rattle.scan.specs.Classes.{gap}
 use Rattle.token.specs.declared.kinds.TokenKind.TheVariants as kind
-use Rattle.rules.specs.declared.found.Found.TheVariants.{Lexed}
+use Rattle.rules.specs.Found.{Lexed}
 use Rattle.table.proofs.picks.folded.Goals as goal
 
 pub returns : goal.returns

@@ -1,18 +1,8 @@
 use Rattle.std.proofs.Common.{sym, arith}
-use Rattle.table.proofs.Turns.{turn_stop, turn_pass, turn_end}
+use Rattle.table.proofs.Turns.{turn}
 use Rattle.table.proofs.steps.passed.Goals as goal
 
-pub returns-in-Stop : goal.returns-in-Stop
-returns-in-Stop g c =
-    let e = turn_stop (g.S.Steps.moves c.args.steps.now) c.args.bytes.now c.loop-n.n c.loop-n.escaped c.loop-n-test.true (sym c.in-Stop.ensures) in
-    record { is = omega (arith, e, c.loop-n.invariant.1); within = c.loop-n.invariant.0 }
-
-pub loop-n-preserved : goal.loop-n-preserved
-loop-n-preserved g c =
-    let e = turn_pass (g.S.Steps.moves c.args.steps.now) c.args.bytes.now c.loop-n.n c.loop-n.escaped c.loop-n-test.true c.in-Pass.more c.min-n.result c.in-Pass.next (sym c.in-Pass.ensures) c.min-n.ensures in
-    (omega (arith, c.min-n.ensures, c.loop-n-test.true), omega (arith, e, c.loop-n.invariant.1))
-
-pub returns : goal.returns
-returns g c =
-    let e = turn_end (g.S.Steps.moves c.args.steps.now) c.args.bytes.now c.loop-n.n c.loop-n.escaped c.loop-n-test.false in
-    record { is = omega (arith, e, c.loop-n.invariant.1); within = c.loop-n.invariant.0 }
+pub loop-rest-preserved : goal.loop-rest-preserved
+loop-rest-preserved g c =
+    let t = turn (g.S.Steps.moves c.args.steps.now) c.loop-rest.escaped c.in-Some.pass.escaped c.loop-rest.rest.now c.in-Some.pass.more c.min.result c.in-len1-up.len_at_least (sym c.in-Some.ensures) (omega (arith, c.min.ensures)) in
+    (omega (arith, t.0, c.loop-rest.invariant.0), omega (arith, t.0, t.1, c.loop-rest.invariant.1))

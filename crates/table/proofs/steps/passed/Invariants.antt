@@ -1,11 +1,11 @@
-use Rattle.std.proofs.Common.{◌≡◌, ◌+◌, ◌-◌, ◌≤◌, false, length, drop}
+use Rattle.std.proofs.Common.{◌≡◌, ◌+◌, ◌≤◌, false, length}
 use Rattle.rules.specs.Scans.{scan}
 use Rattle.table.proofs.steps.passed.Given as goal
 
 -- what is left gives the answer
-abbrev pub invariant-loop-n : goal.invariant-loop-n
-invariant-loop-n g l =
-    (l.n ≤ length l.bytes) × (l.n + scan (g.S.Steps.moves l.steps) 0 l.escaped (drop l.n l.bytes) ≡ scan (g.S.Steps.moves l.steps) 0 false l.bytes)
+abbrev pub invariant-loop-rest : goal.invariant-loop-rest
+invariant-loop-rest g l =
+    (length l.rest ≤ length l.bytes) × (length l.bytes + scan (g.S.Steps.moves l.steps) 0 l.escaped l.rest ≡ length l.rest + scan (g.S.Steps.moves l.steps) 0 false l.bytes)
 
-abbrev pub decreases-loop-n : goal.decreases-loop-n
-decreases-loop-n g l = length l.bytes - l.n
+abbrev pub decreases-loop-rest : goal.decreases-loop-rest
+decreases-loop-rest g l = length l.rest

@@ -1,38 +1,21 @@
-use Rattle.std.proofs.Common.{[], ◌∷◌, length, sym, ap, ◌∙◌, arith}
+use Rattle.std.proofs.Common.{◌+◌, length, Ok, sym, ap, ◌∙◌}
 use Rattle.std.proofs.lemmas.Str.{length-encode}
-use Rattle.unescape.specs.Escapes.{emit, feed}
-use Rattle.text.specs.Fedby.{onto}
-use Rattle.text.proofs.Written.{fits_bytes, one_given, one_refused, one_state}
+use Rattle.unescape.specs.Escapes.{emit}
+use Rattle.text.specs.Fedby.{over}
+use Rattle.text.proofs.Written.{over_none, stepped}
 use Rattle.text.proofs.feeding.place.Goals as goal
 
-pub put-requires : goal.put-requires
-put-requires c =
-    let b = one_given c.args.machine.now.state c.args.c c.in-Ok.given c.in-Ok.ensures.gives ∙ ap emit c.in-Some.is in
-    omega (arith, fits_bytes (feed c.args.machine.now.state (c.args.c ∷ [])) (length c.args.out.now) c.requires, ap length b, length-encode c.in-Some.d)
+pub returns-in-None-clause-writes : goal.returns-in-None-clause-writes
+returns-in-None-clause-writes c =
+    let p = stepped c.args.machine.now.state _ c.args.c c.in_ok-step.ensures.moves c.args.at c.in_ok-step.field-0 c.in_ok-step.ensures.gives in
+    λ _. sym (ap (λ bs. over c.args.at bs c.args.out.now) (p.1 ∙ ap emit c.in-None.is) ∙ over_none c.args.at c.args.out.now)
 
-pub returns-in-None : goal.returns-in-None
-returns-in-None c =
-    let b = one_given c.args.machine.now.state c.args.c c.in-Ok.given c.in-Ok.ensures.gives ∙ ap emit c.in-None.is in
-    record {
-      is = sym (ap length b);
-      moves = one_state c.args.machine.now.state _ c.args.c c.step.ensures.moves;
-      writes = sym (ap (λ bs. onto bs c.args.out.now) b);
-    }
+pub returns-in-Some-clause-gives : goal.returns-in-Some-clause-gives
+returns-in-Some-clause-gives c =
+    let p = stepped c.args.machine.now.state _ c.args.c c.in_ok-step.ensures.moves c.args.at c.in_ok-step.field-0 c.in_ok-step.ensures.gives in
+    p.0 ∙ ap (λ n. Ok (c.step.new.self.state, n)) (ap (λ o. c.args.at + length (emit o)) c.in-Some.is ∙ ap (λ n. c.args.at + n) (length-encode c.in-Some.given) ∙ sym c.put.ensures.is)
 
-pub returns-in-Some : goal.returns-in-Some
-returns-in-Some c =
-    let b = one_given c.args.machine.now.state c.args.c c.in-Ok.given c.in-Ok.ensures.gives ∙ ap emit c.in-Some.is in
-    record {
-      is = c.put.ensures.is ∙ sym (ap length b ∙ length-encode c.in-Some.d);
-      moves = one_state c.args.machine.now.state _ c.args.c c.step.ensures.moves;
-      writes = c.put.ensures.writes ∙ sym (ap (λ bs. onto bs c.args.out.now) b);
-    }
-
-pub returns-in-Err : goal.returns-in-Err
-returns-in-Err c =
-    let b = one_refused c.args.machine.now.state c.args.c _ c.in-Err.ensures.gives in
-    record {
-      is = sym (ap length b);
-      moves = one_state c.args.machine.now.state _ c.args.c c.step.ensures.moves;
-      writes = sym (ap (λ bs. onto bs c.args.out.now) b);
-    }
+pub returns-in-Some-clause-writes : goal.returns-in-Some-clause-writes
+returns-in-Some-clause-writes c =
+    let p = stepped c.args.machine.now.state _ c.args.c c.in_ok-step.ensures.moves c.args.at c.in_ok-step.field-0 c.in_ok-step.ensures.gives in
+    λ h. c.put.ensures.writes h ∙ ap (λ bs. over c.args.at bs c.args.out.now) (sym (p.1 ∙ ap emit c.in-Some.is))

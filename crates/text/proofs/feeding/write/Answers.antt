@@ -1,46 +1,48 @@
-use Rattle.std.proofs.Common.{◌≡◌, ℕ, List, [], ◌∷◌, ◌++◌, length, IsUtf8, Result, ap, ◌∙◌, subst, arith}
+use Rattle.std.proofs.Common.{ℕ, ◌+◌, ◌≤◌, List, [], ◌∷◌, ◌++◌, length, IsUtf8, Result, ◌≡◌, ap, ◌∙◌, subst, arith}
 use lib.Utf8.{encode}
 use Rattle.std.specs.Str.{chars}
-use Rattle.std.proofs.lemmas.List.{nil_from_length}
-use Rattle.std.proofs.lemmas.Str.{chars-nil, chars_past_char, IsUtf8-past_char}
-use Rattle.unescape.specs.Escapes.{Fed, feed}
+use Rattle.std.proofs.lemmas.List.{length-append, nil_from_length}
+use Rattle.std.proofs.lemmas.Result.{err_from_is_err_and}
+use Rattle.std.proofs.lemmas.Str.{chars-nil, chars_past_char, length-encode, len_utf8_bounds, IsUtf8-past_char}
+use Rattle.unescape.specs.Escapes.{Fed}
 use Rattle.unescape.specs.declared.record.Escape.{Escape}
 use Rattle.unescape.specs.declared.record.State.{State}
-use Rattle.text.specs.Fedby.{fits}
-use Rattle.text.proofs.Written.{Sofar, part_length, part_back, piece_fits, piece_part, piece_room, sofar_on, sofar_end}
+use Rattle.text.specs.Fedby.{summed}
+use Rattle.text.proofs.Written.{Sofar, sofar_on, sofar_stop, sofar_end}
 use Rattle.text.proofs.feeding.write.Goals as goal
 
--- the next character and those behind it
-ahead : {at : ℕ} {s : State} {out start : List ℕ} {whole : Result Fed Escape} (c : ℕ) (rest after : List ℕ) → IsUtf8 rest → rest ≡ encode c ++ after → Sofar at s (chars rest) out start whole → Sofar at s ((c ∷ []) ++ chars after) out start whole
-ahead {at} {s} {out} {start} {whole} c rest after u e so = subst (λ cs. Sofar at s cs out start whole) (chars_past_char rest after c u e) so
+module _ {from at : ℕ} {s : State} {out start : List ℕ} {whole : Result Fed Escape} (rest : List ℕ) (so : Sofar from at s (chars rest) out start whole) where
+  -- the next character and those behind it
+  ahead : (c : ℕ) (after : List ℕ) → IsUtf8 rest → rest ≡ encode c ++ after → Sofar from at s ((c ∷ []) ++ chars after) out start whole
+  ahead c after u e = subst (λ cs. Sofar from at s cs out start whole) (chars_past_char rest after c u e) so
 
-pub place-at-requires : goal.place-at-requires
-place-at-requires c =
-    let so = ahead c.in-Some.c _ _ c.loop-c.invariant.2 c.in-Some.ensures.steps.0 c.loop-c.invariant.3 in
-    ap (fits (feed c.loop-c.machine.state (c.in-Some.c ∷ []))) (part_length c.loop-c.at c.loop-c.out) ∙ piece_fits (c.in-Some.c ∷ []) _ so
+  -- nothing is left
+  done : length rest ≡ 0 → Sofar from at s [] out start whole
+  done h = subst (λ cs. Sofar from at s cs out start whole) (ap chars (nil_from_length rest h) ∙ chars-nil) so
 
-pub overflow_add-at : goal.overflow_add-at
-overflow_add-at c =
-    let so = ahead c.in-Some.c _ _ c.loop-c.invariant.2 c.in-Some.ensures.steps.0 c.loop-c.invariant.3 in
-    let r = piece_room (c.in-Some.c ∷ []) _ so in
-    omega (arith, r, c.place-at.ensures.is)
+shorter : (c : ℕ) (rest after : List ℕ) → rest ≡ encode c ++ after → length after + 1 ≤ length rest
+shorter c rest after e = omega (arith, ap length e, length-append (encode c) after, length-encode c, (len_utf8_bounds c).0)
+
+pub returns-in_err-end-clause-gives : goal.returns-in_err-end-clause-gives
+returns-in_err-end-clause-gives c =
+    let p = err_from_is_err_and c.from_residual.result c.from_residual.ensures.1 in
+    let so = ahead _ c.loop-c.invariant.4 c.in-Some.c _ c.loop-c.invariant.2 c.in-Some.ensures.steps.0 in
+    rw (p.1, p.2) (ap (summed c.args.at) (sofar_stop (c.in-Some.c ∷ []) _ so _ c.in_err-end.ensures.gives))
 
 pub loop-c-preserved : goal.loop-c-preserved
 loop-c-preserved c =
     let e = c.in-Some.ensures.steps.0 in
-    let so = ahead c.in-Some.c _ _ c.loop-c.invariant.2 e c.loop-c.invariant.3 in (
+    let so = ahead _ c.loop-c.invariant.4 c.in-Some.c _ c.loop-c.invariant.2 e in
+    let n = shorter c.in-Some.c _ _ e in (
       tt,
       tt,
       IsUtf8-past_char _ _ _ c.loop-c.invariant.2 e,
-      sofar_on (c.in-Some.c ∷ []) _ so _ _ _ c.place-at.ensures.is c.place-at.ensures.moves
-          (part_back c.loop-c.at c.loop-c.out _ _ (piece_part (c.in-Some.c ∷ []) _ so) c.place-at.ensures.writes),
+      omega (arith, n, c.in_ok-end.ensures.near, c.loop-c.invariant.3),
+      sofar_on (c.in-Some.c ∷ []) _ so _ _ _ c.in_ok-end.ensures.gives c.in_ok-end.ensures.writes c.place.auto.out,
     )
 
--- nothing is left
-done : {at : ℕ} {s : State} {out start : List ℕ} {whole : Result Fed Escape} (rest : List ℕ) → length rest ≡ 0 → Sofar at s (chars rest) out start whole → Sofar at s [] out start whole
-done {at} {s} {out} {start} {whole} rest h so = subst (λ cs. Sofar at s cs out start whole) (ap chars (nil_from_length rest h) ∙ chars-nil) so
+pub returns-clause-gives : goal.returns-clause-gives
+returns-clause-gives c = (sofar_end (done _ c.loop-c.invariant.4 c.in-None.ensures.steps.0.0)).0
 
-pub returns : goal.returns
-returns c =
-    let end = sofar_end (done _ c.in-None.ensures.steps.0.0 c.loop-c.invariant.3) c.args.machine.now.state in
-    record { is = end.0; moves = end.1; writes = end.2 }
+pub returns-clause-writes : goal.returns-clause-writes
+returns-clause-writes c = (sofar_end (done _ c.loop-c.invariant.4 c.in-None.ensures.steps.0.0)).1

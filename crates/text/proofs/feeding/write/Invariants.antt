@@ -1,5 +1,5 @@
+use Rattle.std.proofs.Common.{◌+◌, ◌*◌, ◌≤◌, length, IsUtf8}
 use Rattle.std.specs.Str.Iter.{chars_rest}
-use Rattle.std.proofs.Common.{IsUtf8}
 use Rattle.std.specs.Str.{chars}
 use Rattle.unescape.specs.Escapes.{feed}
 use Rattle.text.proofs.Written.{Sofar}
@@ -11,4 +11,5 @@ invariant-loop-c l =
     (goal.iterator-loop-c).can_next l.c-iterator
     × (goal.iterator-loop-c).is_finite l.c-iterator
     × IsUtf8 (chars_rest l.c-iterator)
-    × Sofar l.at l.machine.state (chars (chars_rest l.c-iterator)) l.out l.initial.out (feed l.initial.machine.state (chars l.text))
+    × (l.end + 4 * length (chars_rest l.c-iterator) ≤ l.fn.at + 4 * length l.text)
+    × Sofar l.fn.at l.end l.machine.state (chars (chars_rest l.c-iterator)) l.out l.initial.out (feed l.initial.machine.state (chars l.text))

@@ -1,6 +1,8 @@
-use Rattle.std.proofs.Common.{sym, subst}
-use Rattle.session.specs.Able.{Able, Deep}
-use Rattle.session.proofs.Handed.{able_behind, deep_behind, ends_between, settled_behind, shallow_behind, there}
+use Rattle.std.proofs.Common.{None, ◌≡◌, sym, subst}
+use Rattle.lexer.specs.Answers.{lacks}
+use Rattle.lexer.proofs.Came.{came}
+use Rattle.session.specs.Sessions.{state_of}
+use Rattle.session.proofs.Handed.{deep_behind, ends_between, settled_behind, shallow_behind}
 use Rattle.session.proofs.record.Session.hand_out.Goals as goal
 
 pub pass-requires : goal.pass-requires
@@ -12,15 +14,14 @@ invariant_of-self c =
     let p = c.pass.new.cursor in
     record {
       shallow = shallow_behind s c.args.t c.requires p c.pass.ensures.of c.pass.ensures.at;
-      settled = settled_behind s c.args.t c.requires p c.pass.ensures.of c.pass.ensures.at;
+      settled = settled_behind s c.args.t c.requires p c.pass.ensures.of c.pass.ensures.at _ c.saturating_sub-self.ensures;
     }
 
 pub shift-requires : goal.shift-requires
 shift-requires c =
     let s = c.args.self.now in
     let p = c.pass.new.cursor in
-    let u = there s c.args.t c.requires p c.pass.ensures.of c.pass.ensures.at in
     record {
-      able = subst (Able u) (sym c.effect.ensures) (able_behind s c.args.t c.requires p c.pass.ensures.of c.pass.ensures.at);
-      deep = subst (Deep u) (sym c.effect.ensures) (deep_behind s c.args.t c.requires p c.pass.ensures.of c.pass.ensures.at);
+      able = subst (λ f. lacks (state_of s) f ≡ None) (sym c.effect.ensures) (came (state_of s) c.args.t c.requires).roomy;
+      deep = deep_behind s c.args.t c.requires p c.pass.ensures.of c.pass.ensures.at c.effect.result c.effect.ensures;
     }

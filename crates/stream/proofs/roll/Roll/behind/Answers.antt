@@ -1,4 +1,4 @@
-use Rattle.std.proofs.Common.{◌≡◌, ℕ, sym, ◌∙◌, arith}
+use Rattle.std.proofs.Common.{sym, ◌∙◌}
 use Rattle.stack.specs.Held.{held}
 use Rattle.stream.proofs.Rolling.{entry_first, none_first}
 use Rattle.stream.proofs.roll.Roll.behind.Goals as goal
@@ -16,5 +16,5 @@ returns-else-self-lt-MAX_TOKENS c =
     let s = c.args.self.now in
     record {
       is = sym (none_first (held s.tokens) s.cursor 98305 c.if-self-lt-MAX_TOKENS.false);
-      near = λ h. absurd (let z : ◌≡◌ {A = ℕ} 0 1 = cc in omega arith);
+      near = λ h. cc;
     }

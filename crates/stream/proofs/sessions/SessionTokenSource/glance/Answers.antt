@@ -2,6 +2,4 @@ use Rattle.stream.proofs.Meant.{glanced}
 use Rattle.stream.proofs.sessions.SessionTokenSource.glance.Goals as goal
 
 pub returns : goal.returns
-returns c =
-    let h = glanced c.args.self.now _ _ c.glance.ensures in
-    record { gives = h.gives; leaves = h.leaves; few = h.few; keeps = h.keeps }
+returns c = glanced c.args.self.now c.glance.new.self _ c.glance.ensures

@@ -2,6 +2,4 @@ use Rattle.stream.proofs.Meant.{nexted}
 use Rattle.stream.proofs.sessions.SessionTokenSource.next.Goals as goal
 
 pub returns : goal.returns
-returns c =
-    let h = nexted c.args.self.now _ _ c.next.ensures in
-    record { gives = h.gives; leaves = h.leaves; few = h.few; steps = h.steps }
+returns c = nexted c.args.self.now c.next.new.self _ c.next.ensures

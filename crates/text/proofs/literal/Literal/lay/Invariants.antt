@@ -1,0 +1,18 @@
+use Rattle.std.proofs.Common.{◌≡◌, ◌+◌, ◌*◌, ◌≤◌, length}
+use Rattle.std.specs.Str.{chars}
+use Rattle.unescape.specs.Escapes.{close, feed}
+use Rattle.unindent.specs.Left.{left}
+use Rattle.text.specs.Cooked.{cooked}
+use Rattle.text.proofs.Cooks.{laid}
+use Rattle.text.proofs.Written.{Sofar}
+use Rattle.text.proofs.literal.Literal.lay.Given as goal
+
+-- what is written and what is left give the whole, which is the literal's text
+abbrev pub invariant-loop-piece : goal.invariant-loop-piece
+invariant-loop-piece l =
+    (l.end + 4 * length l.pieces.rest.now ≤ 4 * 65536)
+    × (close (feed l.initial.machine.state (chars (laid (left l.initial.pieces)))) ≡ cooked l.self.kind l.self.inner.now)
+    × Sofar 0 l.end l.machine.state (chars (laid (left l.pieces))) l.out l.initial.out (feed l.initial.machine.state (chars (laid (left l.initial.pieces))))
+
+abbrev pub decreases-loop-piece : goal.decreases-loop-piece
+decreases-loop-piece l = length l.pieces.rest.now
