@@ -2,7 +2,7 @@
 
 #![tactic(auto)]
 
-use anyhow::anyhow;
+use anyhow::ensure;
 use std::io::Read;
 use survey::{report_line, survey};
 
@@ -12,8 +12,6 @@ fn main(rt: HostRuntime) -> anyhow::Result<()> {
     rt.stdin().read_to_end(&mut bytes)?;
     let answer = survey(bytes.as_slice());
     rt.print(report_line(heap, answer)?)?;
-    if answer.is_err() {
-        return Err(anyhow!("refused"));
-    }
+    ensure!(answer.is_ok(), "refused");
     Ok(())
 }

@@ -27,7 +27,7 @@ pub fn list(heap: Global, bytes: &[u8], out: &mut Vec<u8>) -> Result<bool, Alloc
         out,
     };
     match admitted {
-        Ok(_) => listing.append_tokens(),
+        Ok(()) => listing.append_tokens(),
         Err(fault) => listing.append_fault(fault),
     }
 }

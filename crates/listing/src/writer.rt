@@ -41,7 +41,7 @@ impl<'a> Writer<'a> {
         self.place = self.place.saturating_add(bytes.len());
     }
 
-    // A number in decimal.
+    // A number in decimal. Digit by digit: `write!` and `InlineText` leave open whether they wrote all of it, and a String needs a heap.
     fn number(&mut self, n: u32)
         ensures { Writes (decimal n) self.old self.new }
     {

@@ -16,7 +16,7 @@ fn main(rt: HostRuntime) -> anyhow::Result<()> {
             append(&mut text, word)?;
         }
         let mut listing = Vec::new(heap);
-        let _ = list(heap, text.as_slice(), &mut listing)?;
+        list(heap, text.as_slice(), &mut listing)?;
         listing.extend_from_slice(b"--\n")?;
         rt.stdout().write_all(listing.as_slice())?;
     }

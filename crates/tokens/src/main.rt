@@ -2,7 +2,7 @@
 
 #![tactic(auto)]
 
-use anyhow::anyhow;
+use anyhow::ensure;
 use lister::list;
 use std::io::{Read, Write};
 
@@ -13,8 +13,6 @@ fn main(rt: HostRuntime) -> anyhow::Result<()> {
     let mut listing = Vec::new(heap);
     let whole = list(heap, text.as_slice(), &mut listing)?;
     rt.stdout().write_all(listing.as_slice())?;
-    if !whole {
-        return Err(anyhow!("refused"));
-    }
+    ensure!(whole, "refused");
     Ok(())
 }
