@@ -106,7 +106,7 @@ impl<'a, 't> Session<'a, 't> {
         let n = t.length as usize;
         let seen = self.seen(t);
         pass(&mut self.cursor, n);
-        self.blank.length = self.blank.length.saturating_sub(n);
+        self.blank = self.blank.behind(n);
         self.shift(effect(t.kind), t, seen);
     }
 }
