@@ -55,10 +55,5 @@ ends_only [] = refl
 ends_only (c ∷ w) = sym (ap (λ v. cond v false (pointwise eqb (10 ∷ []) (drop (suc (length w) - 1) (c ∷ w)))) (ne_eqb (suc (length w)) 0 (λ e. omega arith)))
 
 -- the white space that comes first ends in a line feed, and something follows it
-pub outdents_ends : (s w b : List ℕ) (n : ℕ) (e f : Bool) → n ≡ prefix_len white s → w ≡ take n s → b ≡ drop n s → e ≡ ends_with eqb w (10 ∷ []) → f ≡ eqb (length b) 0 → (e && not f) ≡ outdents false s
-outdents_ends s w b n e f p q r g h =
-    (λ i. g i && not (h i))
-    ∙ ap (λ v. v && not (eqb (length b) 0)) (ends_only w)
-    ∙ (λ i. ends false (q i) && not (eqb (length (r i)) 0))
-    ∙ (λ i. ends false (take (p i) s) && not (eqb (length (drop (p i) s)) 0))
-    ∙ sym (reads false s)
+pub outdents_ends : (s : List ℕ) → outdents false s ≡ (ends_with eqb (take (prefix_len white s) s) (10 ∷ []) && not (eqb (length (drop (prefix_len white s) s)) 0))
+outdents_ends s = reads false s ∙ ap (λ v. v && not (eqb (length (drop (prefix_len white s) s)) 0)) (sym (ends_only (take (prefix_len white s) s)))

@@ -108,6 +108,7 @@ pub fn rule(fresh: bool, around: Around, levels: Levels, ahead: &[u8]) -> Found
 }
 
 // The same, where something is known of the blank-line scan, so that less is scanned.
+#[tactic(auto, using(crate::proofs::Sounds::sound_from))]
 pub fn rule_from(fresh: bool, around: Around, levels: Levels, ahead: Ahead) -> Found
     ensures is { result ≡ rule_of fresh around (texts_of levels.entry) ahead.entry.bytes.now }
     ensures sound { Sound fresh around (texts_of levels.entry) ahead.entry.bytes.now result }

@@ -234,6 +234,7 @@ fn by_rule(rule: Rule, around: Around, ahead: &[u8]) -> Found
 }
 
 // What the general table finds.
+#[tactic(auto, using(rules::proofs::Picked::picked))]
 pub fn general(around: Around, ahead: &[u8]) -> Found
     ensures { result ≡ general_of around ahead.now }
 {
