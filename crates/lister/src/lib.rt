@@ -33,8 +33,6 @@ pub fn list(heap: Global, bytes: &[u8], out: &mut Vec<u8>) -> Result<bool, Alloc
 }
 
 // A worked example: the listing of an identifier and a line feed.
-pub fn sample_holds() -> u8
+pub fn sample_holds()
     ensures { Sample }
-{
-    0
-}
+{}

@@ -4,8 +4,8 @@
 
 use listing::fault_line;
 use std::alloc::{AllocError, Global};
-use std::num::ParseIntError;
 use unquoted::unquoted;
+use words::append;
 
 fn main(rt: HostRuntime) -> anyhow::Result<()> {
     let heap = rt.alloc();
@@ -20,7 +20,7 @@ fn main(rt: HostRuntime) -> anyhow::Result<()> {
 fn answer(heap: Global, line: &str) -> anyhow::Result<String> {
     let mut literal = Vec::new(heap);
     for word in line.split_whitespace() {
-        literal.push(u8::from_str_radix(word, 16)?)?;
+        append(&mut literal, word)?;
     }
     let mut buffer = vec![in heap; 0u8; literal.len()]?;
     match unquoted(literal.as_slice(), buffer.as_mut_slice()) {

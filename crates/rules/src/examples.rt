@@ -1,8 +1,6 @@
 ghost use Rattle.rules.specs.Samples.{Samples};
 
 // The worked examples of the definition hold.
-pub fn samples_hold() -> u8
+pub fn samples_hold()
     ensures { Samples }
-{
-    0
-}
+{}

@@ -6,15 +6,11 @@ ghost use Rattle.text_laws.specs.Examples.{ExamplesHold};
 ghost use Rattle.text_laws.specs.Laws.{StringTextsLawful};
 
 // Unindenting removes the longest run that the lines share, a text without backslashes is its own unescaping, and every string text is UTF-8.
-pub fn string_texts_are_lawful() -> u8
+pub fn string_texts_are_lawful()
     ensures { StringTextsLawful }
-{
-    0
-}
+{}
 
 // The worked examples hold of the definitions.
-pub fn string_examples_hold() -> u8
+pub fn string_examples_hold()
     ensures { ExamplesHold }
-{
-    0
-}
+{}
