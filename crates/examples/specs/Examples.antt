@@ -4,14 +4,12 @@ use Rattle.token.specs.Told.{Told, gave, origin, refused_over}
 use Rattle.token.specs.declared.fault.Cause.{Cause}
 use Rattle.token.specs.declared.fault.Cause.TheVariants as cause
 use Rattle.token.specs.declared.fault.Layer.TheVariants as layer
-use Rattle.token.specs.declared.kinds.TokenKind.{TokenKind}
 use Rattle.token.specs.declared.kinds.TokenKind.TheVariants as kind
-use Rattle.token.specs.declared.place.Position.{Position}
 use Rattle.token.specs.declared.place.Token.{Token}
 use Rattle.text.specs.Texts.{string_text}
 use Rattle.lexer.specs.Answers.{fault_at}
+use Rattle.lexer.specs.Examples.{at, rooms, tok}
 use Rattle.lexer.specs.Runs.{Meaning, tokens_of}
-use Rattle.lexer.specs.States.{Rooms}
 
 -- a text that is lexed, or a literal whose text is wanted
 pub data Given : Type 0 where
@@ -21,9 +19,6 @@ pub data Given : Type 0 where
 pub data Reply : Type 0 where
   lexed : Meaning → Reply
   read : Told (List ℕ) → Reply
-
-abbrev pub rooms : Rooms
-rooms = record { levels = 359; openers = 1024 }
 
 -- a literal as one string token
 abbrev pub whole : List ℕ → Token
@@ -37,12 +32,6 @@ reply_to (reading bs) = read (string_text bs (whole bs))
 pub record Example : Type 0 where
   pub given : Given
   pub reply : Reply
-
-abbrev pub at : (line column offset : ℕ) → Position
-at line column offset = record { offset = offset; line = line; column = column }
-
-abbrev pub tok : TokenKind → (line column offset length : ℕ) → Token
-tok k line column offset length = record { kind = k; position = at line column offset; length = length }
 
 abbrev pub clean : List ℕ → List Token → Example
 clean text tokens = record { given = lexing text; reply = lexed (record { tokens = tokens; ending = None }) }

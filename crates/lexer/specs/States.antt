@@ -53,9 +53,9 @@ spanned text s = take s.length (drop s.offset text)
 abbrev pub level_texts : State → List (List ℕ)
 level_texts σ = map (spanned σ.text) σ.standing.levels
 
-abbrev pub newest : List Delimiter → Option Delimiter
+abbrev pub newest : {A : Type 0} → List A → Option A
 newest [] = None
-newest (d ∷ ds) = Some d
+newest (x ∷ xs) = Some x
 
 -- what the rules see
 abbrev pub around : State → Around

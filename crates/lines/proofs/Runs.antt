@@ -1,36 +1,27 @@
 -- What the library says of runs of bytes, in the words of the rules.
-use Rattle.std.proofs.Common.{◌≡◌, ℕ, suc, ◌-◌, Bool, true, false, cond, not, ◌&&◌, eqb, List, [], ◌∷◌, length, take, drop, refl, sym, ap, ◌∙◌, subst, one-add, arith}
+use Rattle.std.proofs.Common.{◌≡◌, ℕ, suc, ◌-◌, Bool, false, cond, not, ◌&&◌, eqb, List, [], ◌∷◌, length, take, drop, refl, sym, ap, ◌∙◌, subst, one-add, arith}
+use Rattle.std.proofs.Math.Bool.{and-true}
 use Rattle.std.proofs.lemmas.Bool.{cond-false, cond-true, ne_eqb}
 use Rattle.std.proofs.lemmas.Bool.Decides.{nat_tests}
 use Rattle.std.specs.Cmp.Lexicographic.{pointwise}
 use Rattle.std.specs.List.{ends_with, prefix_len}
 use Rattle.scan.specs.Classes.{white}
-use Rattle.scan.specs.Prefix.{begins}
 use Rattle.rules.proofs.Cases.{by}
 use Rattle.rules.specs.Lines.{outdents, same}
 
 turned : (x y : ℕ) → eqb y x ≡ eqb x y
 turned x y = grind (arith, nat_tests)
 
-swapped : (b p q : Bool) → ((b && p) && (b && q)) ≡ (b && (p && q))
-swapped true p q = refl
-swapped false p q = refl
-
 -- equality of lists
 pub same_pointwise : (a b : List ℕ) → pointwise eqb a b ≡ same a b
 same_pointwise [] [] = refl
 same_pointwise [] (y ∷ b) = refl
 same_pointwise (x ∷ a) [] = refl
-same_pointwise (x ∷ a) (y ∷ b) =
-    ap (λ v. eqb x y && v) (same_pointwise a b) ∙ sym (ap (λ v. (v && begins a b) && (eqb x y && begins b a)) (turned x y) ∙ swapped (eqb x y) (begins a b) (begins b a))
+same_pointwise (x ∷ a) (y ∷ b) = grind (arith, turned x y, same_pointwise a b)
 
 -- whether a run, behind a line feed or not, ends in one
 ends : Bool → List ℕ → Bool
 ends fed w = cond (eqb (length w) 0) fed (pointwise eqb (10 ∷ []) (drop (length w - 1) w))
-
-all_true : (b : Bool) → (b && true) ≡ b
-all_true true = refl
-all_true false = refl
 
 ends_none : (fed : Bool) → ends fed [] ≡ fed
 unfolding ends
@@ -38,7 +29,7 @@ ends_none fed = refl
 
 ends_more : (fed : Bool) (c : ℕ) (w : List ℕ) → ends fed (c ∷ w) ≡ ends (eqb c 10) w
 unfolding ends
-ends_more fed c [] = all_true (eqb 10 c) ∙ turned c 10
+ends_more fed c [] = and-true (eqb 10 c) ∙ turned c 10
 ends_more fed c (d ∷ r) =
     let k : suc (suc (length r)) - 1 ≡ suc (length r) = omega arith in
     let e : suc (length r) ≡ suc (suc (length r) - 1) = omega arith in
@@ -48,19 +39,15 @@ ends_more fed c (d ∷ r) =
     ∙ ap (λ n. pointwise eqb (10 ∷ []) (drop n (c ∷ d ∷ r))) (k ∙ e)
     ∙ sym (ap (λ v. cond v (eqb c 10) (pointwise eqb (10 ∷ []) (drop (suc (length r) - 1) (d ∷ r)))) g)
 
-rest_none : (fed : Bool) → (fed && false) ≡ false
-rest_none true = refl
-rest_none false = refl
-
 reads : (fed : Bool) (s : List ℕ) → outdents fed s ≡ (ends fed (take (prefix_len white s) s) && not (eqb (length (drop (prefix_len white s) s)) 0))
-reads fed [] = sym (rest_none (ends fed []))
+reads fed [] = grind arith
 reads fed (c ∷ s) =
     by (λ n. cond (white c) (outdents (eqb c 10) s) fed ≡ (ends fed (take n (c ∷ s)) && not (eqb (length (drop n (c ∷ s))) 0))) (white c)
     (λ w.
     let n = prefix_len white s in
     subst (λ (k : ℕ). cond (white c) (outdents (eqb c 10) s) fed ≡ (ends fed (take k (c ∷ s)) && not (eqb (length (drop k (c ∷ s))) 0))) (sym (one-add n))
     (cond-true (white c) (outdents (eqb c 10) s) fed w ∙ reads (eqb c 10) s ∙ ap (λ v. v && not (eqb (length (drop n s)) 0)) (sym (ends_more fed c (take n s)))))
-    (λ w. cond-false (white c) (outdents (eqb c 10) s) fed w ∙ sym (ap (λ v. ends fed [] && not v) (ne_eqb (suc (length s)) 0 (λ e. omega arith)) ∙ all_true (ends fed []) ∙ ends_none fed))
+    (λ w. cond-false (white c) (outdents (eqb c 10) s) fed w ∙ sym (ap (λ v. ends fed [] && not v) (ne_eqb (suc (length s)) 0 (λ e. omega arith)) ∙ and-true (ends fed []) ∙ ends_none fed))
 
 ends_only : (w : List ℕ) → pointwise eqb (10 ∷ []) (drop (length w - 1) w) ≡ ends false w
 unfolding ends
@@ -68,10 +55,5 @@ ends_only [] = refl
 ends_only (c ∷ w) = sym (ap (λ v. cond v false (pointwise eqb (10 ∷ []) (drop (suc (length w) - 1) (c ∷ w)))) (ne_eqb (suc (length w)) 0 (λ e. omega arith)))
 
 -- the white space that comes first ends in a line feed, and something follows it
-pub outdents_ends : (s w b : List ℕ) (n : ℕ) (e f : Bool) → n ≡ prefix_len white s → w ≡ take n s → b ≡ drop n s → e ≡ ends_with eqb w (10 ∷ []) → f ≡ eqb (length b) 0 → (e && not f) ≡ outdents false s
-outdents_ends s w b n e f p q r g h =
-    (λ i. g i && not (h i))
-    ∙ ap (λ v. v && not (eqb (length b) 0)) (ends_only w)
-    ∙ (λ i. ends false (q i) && not (eqb (length (r i)) 0))
-    ∙ (λ i. ends false (take (p i) s) && not (eqb (length (drop (p i) s)) 0))
-    ∙ sym (reads false s)
+pub outdents_ends : (s : List ℕ) → outdents false s ≡ (ends_with eqb (take (prefix_len white s) s) (10 ∷ []) && not (eqb (length (drop (prefix_len white s) s)) 0))
+outdents_ends s = reads false s ∙ ap (λ v. v && not (eqb (length (drop (prefix_len white s) s)) 0)) (sym (ends_only (take (prefix_len white s) s)))

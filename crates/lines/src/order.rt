@@ -16,11 +16,7 @@ use token::TokenKind;
 fn space(n: usize) -> Option<Found>
     ensures { result ≡ space_of n }
 {
-    if n == 0 {
-        None
-    } else {
-        Some(Ok((TokenKind::Whitespace, n)))
-    }
+    (n > 0).then_some(Ok((TokenKind::Whitespace, n)))
 }
 
 // What the start of a line hands out.
@@ -49,11 +45,9 @@ fn stop(ahead: &[u8]) -> Found
 fn body(ahead: &[u8]) -> Found
     ensures { result ≡ body_of ahead.now }
 {
-    let n = passed(&OverText, ahead);
-    if n == 0 {
-        stop(ahead)
-    } else {
-        Ok((TokenKind::Text, n))
+    match passed(&OverText, ahead) {
+        0 => stop(ahead),
+        n => Ok((TokenKind::Text, n)),
     }
 }
 
@@ -91,10 +85,8 @@ impl<'a> Here<'a> {
     fn tried(self, fresh: bool) -> Found
         ensures { result ≡ rule_of fresh self.entry.around (texts_of self.entry.levels) self.entry.ahead.bytes.now }
     {
-        if fresh {
-            if let Some(found) = told(self.start()) {
-                return found;
-            }
+        if fresh && let Some(found) = told(self.start()) {
+            return found;
         }
         self.onward()
     }
@@ -116,6 +108,7 @@ pub fn rule(fresh: bool, around: Around, levels: Levels, ahead: &[u8]) -> Found
 }
 
 // The same, where something is known of the blank-line scan, so that less is scanned.
+#[tactic(auto, using(crate::proofs::Sounds::sound_from))]
 pub fn rule_from(fresh: bool, around: Around, levels: Levels, ahead: Ahead) -> Found
     ensures is { result ≡ rule_of fresh around (texts_of levels.entry) ahead.entry.bytes.now }
     ensures sound { Sound fresh around (texts_of levels.entry) ahead.entry.bytes.now result }

@@ -7,6 +7,7 @@ use crate::reached::Reach;
 use scan::{White, leading};
 
 // Whether the white space that comes first ends in a line feed, and something follows it.
+#[tactic(auto, using(crate::proofs::Runs::outdents_ends))]
 fn outdents(ahead: &[u8]) -> bool
     ensures { result ≡ outdents_of false ahead.now }
 {

@@ -54,7 +54,7 @@ impl<'a> Levels<'a> {
         }
     }
 
-    // Whether a run stands where one of the open Indents does, in the library's words.
+    // Whether a run is the part of the text over which some span stands: the chain alone, since the check follows it to the library's words.
     fn any_is(self, run: &[u8]) -> bool
         ensures { result ≡ list_any (λ span. same_of run.now (part_of self.entry.text.now span)) (reverse self.entry.spans.now) }
     {
@@ -65,6 +65,7 @@ impl<'a> Levels<'a> {
     }
 
     // Whether a run is the text of an open Indent.
+    #[tactic(auto, using(crate::proofs::Texts::among_any))]
     pub(crate) fn among(self, run: &[u8]) -> bool
         ensures { result ≡ among_of run.now (texts_of self.entry) }
     {

@@ -6,7 +6,7 @@ use Rattle.std.specs.Str.{IsCharBoundary}
 use Rattle.std.specs.List.{prefix_len}
 use Rattle.std.proofs.lemmas.List.{length-drop}
 use Rattle.std.proofs.lemmas.List.Sums.{prefix_len-le-length}
-use Rattle.std.proofs.lemmas.Bool.{and_parts, eqb-true, false≢true, ltb-true}
+use Rattle.std.proofs.lemmas.Bool.{and_parts, false≢true}
 use Rattle.std.proofs.lemmas.Str.{IsCharBoundary-after_ascii, IsCharBoundary-from_rest, IsCharBoundary-past_char, IsCharBoundary-start, length-encode, IsUtf8-drop, len_utf8_bounds}
 use Rattle.utf8.specs.Utf8.{character, shown_length}
 use Rattle.utf8.proofs.Rows.{character_encode, shown_character}
@@ -20,13 +20,13 @@ all_low (b ∷ bs) = ltb b 128 && all_low bs
 
 low_at : (p : List ℕ) (i : ℕ) → all_low p ≡ true → get_or p i 0 < 128
 low_at [] i h = omega arith
-low_at (b ∷ p) zero h = ltb-true b 128 (and_parts (ltb b 128) (all_low p) h).0
+low_at (b ∷ p) zero h = grind arith
 low_at (b ∷ p) (suc i) h = low_at p i (and_parts (ltb b 128) (all_low p) h).1
 
 begins_at : (p s : List ℕ) (i : ℕ) → begins p s ≡ true → i < length p → get_or s i 0 ≡ get_or p i 0
 begins_at [] s i h l = absurd (omega arith)
 begins_at (c ∷ p) [] i h l = absurd (false≢true h)
-begins_at (c ∷ p) (b ∷ s) zero h l = eqb-true b c (and_parts (eqb b c) (begins p s) h).0
+begins_at (c ∷ p) (b ∷ s) zero h l = grind arith
 begins_at (c ∷ p) (b ∷ s) (suc i) h l = begins_at p s i (and_parts (eqb b c) (begins p s) h).1 (omega arith)
 
 begins_long : (p s : List ℕ) → begins p s ≡ true → length p ≤ length s
@@ -81,7 +81,7 @@ abbrev pub WholeMoves : (Bool → List ℕ → Move) → Type 0
 WholeMoves m = (e : Bool) (c : ℕ) (s : List ℕ) → IsUtf8 (c ∷ s) → WholeMove (c ∷ s) (m e (c ∷ s))
 
 owed : (m : Bool → List ℕ → Move) (k : ℕ) (e : Bool) (s : List ℕ) → k ≤ length s → scan m k e s ≡ k + scan m 0 e (drop k s)
-owed m zero e s h = let z : scan m 0 e s ≡ 0 + scan m 0 e s = omega arith in z
+owed m zero e s h = grind arith
 owed m (suc k) e [] h = absurd (omega arith)
 owed m (suc k) e (c ∷ s) h = let i = owed m k e s (omega arith) in (let z : suc (scan m k e s) ≡ suc k + scan m 0 e (drop k s) = omega (arith, i) in z)
 

@@ -1,5 +1,5 @@
 -- What the rules find fits.
-use Rattle.std.proofs.Common.{◌≡◌, ℕ, ◌+◌, ◌<◌, ◌≤◌, Bool, true, false, cond, ◌&&◌, eqb, List, [], ◌∷◌, length, drop, is_some, Some, None, Option, sym, refl, ap, arith}
+use Rattle.std.proofs.Common.{◌≡◌, ℕ, ◌+◌, ◌<◌, ◌≤◌, Bool, true, false, cond, ◌&&◌, List, [], ◌∷◌, length, drop, is_some, Some, None, Option, sym, refl, ap, arith}
 use Rattle.std.proofs.lemmas.List.{length-drop}
 use Rattle.std.proofs.lemmas.List.Sums.{prefix_len-le-length}
 use Rattle.std.proofs.lemmas.Bool.{or_left}
@@ -22,9 +22,9 @@ use Rattle.rules.specs.declared.parts.Rule.TheVariants as rule
 use Rattle.rules.specs.Effects.{effect_of}
 use Rattle.rules.specs.Laws.{Fits, Shaped, Sound}
 use Rattle.rules.specs.Picks.{admits}
-use Rattle.rules.specs.Scans.{closing as closing_braces, crlf, empty, lf, over_comment}
-use Rattle.rules.specs.Strings.{formatting, kind_of, opened, quotation, reach, reaches, resumed, string_of, found_string}
-use Rattle.rules.specs.Table.{bang, brace, found_by_rule, closing, colon, continuing, found_line_end, equals, escape, first_of, folded, format_of, general, letter, missing, name_byte, nested, plus, separator, shape, stray, table, twice}
+use Rattle.rules.specs.Scans.{closing as closing_braces, empty, over_comment}
+use Rattle.rules.specs.Strings.{formatting, kind_of, opened, quotation, reach, reaches, resumed, string_of}
+use Rattle.rules.specs.Table.{bang, brace, found_by_rule, closing, colon, continuing, found_line_end, equals, escape, first_of, folded, format_of, general, letter, missing, name_byte, plus, stray, table, twice}
 use Rattle.rules.proofs.Cases.{by}
 use Rattle.rules.proofs.Passes.{comment_some, delimiter_some, leading_some, reach_le, scan_le, some, width_le}
 use Rattle.rules.proofs.Picked.{Held, looked_up, picked}
@@ -38,30 +38,16 @@ module _ (fresh : Bool) (o : Around) (levels : List (List ℕ)) (s : List ℕ) w
   Plain k = (n : ℕ) → 0 < n → n ≤ length s → Fits fresh o levels s (effect_of k) n
 
   bang_good : empty s ≡ false → Good (bang s)
-  bang_good h =
-      let l = some s h in
-      by Good (begins (33 ∷ 61 ∷ []) s)
-      (λ b. (omega arith, begins_fits (33 ∷ 61 ∷ []) s b, tt))
-      (λ _. by Good (begins (33 ∷ 126 ∷ []) s) (λ b. (omega arith, begins_fits (33 ∷ 126 ∷ []) s b, tt)) (λ _. (omega arith, omega arith, tt)))
+  bang_good h = grind arith
 
   plus_good : empty s ≡ false → Good (plus s)
-  plus_good h =
-      let l = some s h in
-      by Good (begins (43 ∷ 43 ∷ []) s) (λ b. (omega arith, begins_fits (43 ∷ 43 ∷ []) s b, tt)) (λ _. (omega arith, omega arith, tt))
+  plus_good h = grind arith
 
   equals_good : empty s ≡ false → Good (equals s)
-  equals_good h =
-      let l = some s h in
-      by Good (begins (61 ∷ 61 ∷ []) s)
-      (λ b. (omega arith, begins_fits (61 ∷ 61 ∷ []) s b, tt))
-      (λ _. by Good (begins (61 ∷ 126 ∷ []) s) (λ b. (omega arith, begins_fits (61 ∷ 126 ∷ []) s b, tt)) (λ _. (omega arith, omega arith, tt)))
+  equals_good h = grind arith
 
   colon_good : empty s ≡ false → Good (colon s)
-  colon_good h =
-      let l = some s h in
-      by Good (begins (58 ∷ 61 ∷ []) s)
-      (λ b. (omega arith, begins_fits (58 ∷ 61 ∷ []) s b, tt))
-      (λ _. by Good (begins (58 ∷ 58 ∷ []) s) (λ b. (omega arith, begins_fits (58 ∷ 58 ∷ []) s b, tt)) (λ _. (omega arith, omega arith, tt)))
+  colon_good h = grind arith
 
   missing_good : 0 < length s → (t : List ℕ) → Good (missing t)
   missing_good l [] = (omega arith, omega arith)
@@ -73,15 +59,10 @@ module _ (fresh : Bool) (o : Around) (levels : List (List ℕ)) (s : List ℕ) w
 
   closing_good : (d : Delimiter) (k : TokenKind) (newest : Option Delimiter) → (Shaped d newest → Fits fresh o levels s (effect_of k) 1) → Good (closing d k newest)
   closing_good d k None f = (omega arith, omega arith)
-  closing_good d k (Some e) f = by Good (eqb (shape e) (shape d)) (λ h. f h) (λ _. (omega arith, omega arith))
-
-  string_token_plain : (q : StringDelimiter) → Plain (found_string q)
-  string_token_plain quote.Backtick n a b = (a, b, tt)
-  string_token_plain quote.QuoteDouble n a b = (a, b, tt)
-  string_token_plain quote.QuoteSingle n a b = (a, b, tt)
+  closing_good d k (Some e) f = grind arith
 
   opened_good : (k : StringKind) (n : ℕ) (r : Reach) → 0 < n → n + reaches r ≤ length s → Good (opened k n r)
-  opened_good k n (Closes m) a b = string_token_plain k.delimiter (n + m) (omega arith) b
+  opened_good k n (Closes m) a b = grind arith
   opened_good k n (Pauses m) a b = (omega arith, b, tt)
   opened_good k n Ends a b = (omega arith, omega arith)
 
@@ -91,7 +72,7 @@ module _ (fresh : Bool) (o : Around) (levels : List (List ℕ)) (s : List ℕ) w
       opened_good k n (reach k f (drop n s)) (delimiter_some k) (omega (arith, reach_le k f (drop n s), length-drop n s, begins_fits (delimiter_of k) s h))
 
   kind_begins : (q : StringDelimiter) → begins (quote_byte q ∷ []) s ≡ true → begins (delimiter_of (kind_of q s)) s ≡ true
-  kind_begins q h = by (λ d. begins d s ≡ true) (begins (quote_byte q ∷ quote_byte q ∷ quote_byte q ∷ []) s) (λ b. b) (λ _. h)
+  kind_begins q h = grind arith
 
   quotation_good : (q : StringDelimiter) → begins (quote_byte q ∷ []) s ≡ true → Good (quotation q o.formats s)
   quotation_good q h = string_good (kind_of q s) (formatting q && o.formats) (kind_begins q h)
@@ -102,7 +83,7 @@ module _ (fresh : Bool) (o : Around) (levels : List (List ℕ)) (s : List ℕ) w
   resumed_good k Ends b i = (omega arith, omega arith)
 
   brace_closes : 0 < length s → Good (closing delimiter.Brace kind.BraceR o.newest)
-  brace_closes l = closing_good delimiter.Brace kind.BraceR o.newest (λ h. (omega arith, omega arith, h))
+  brace_closes l = grind arith
 
   continuing_good : (f : Option StringKind) → f ≡ format_of o.newest → begins closing_braces s ≡ true → Good (continuing f o.newest s)
   continuing_good None e h = brace_closes (omega (arith, begins_fits closing_braces s h))
@@ -112,14 +93,8 @@ module _ (fresh : Bool) (o : Around) (levels : List (List ℕ)) (s : List ℕ) w
   brace_good : empty s ≡ false → Good (brace o.newest s)
   brace_good h = by Good (begins closing_braces s) (λ b. continuing_good (format_of o.newest) refl b) (λ _. brace_closes (some s h))
 
-  separator_plain : Plain (separator o)
-  separator_plain n a b = by (λ k. Fits fresh o levels s (effect_of k) n) (nested o) (λ _. (a, b, tt)) (λ _. (a, b, tt))
-
   line_end_good : empty s ≡ false → Good (found_line_end o s)
-  line_end_good h =
-      by Good (begins lf s)
-      (λ b. separator_plain 1 (omega arith) (begins_fits lf s b))
-      (λ _. by Good (begins crlf s) (λ b. separator_plain 2 (omega arith) (begins_fits crlf s b)) (λ _. (omega arith, omega arith)))
+  line_end_good h = grind arith
 
   folded_good : (n : ℕ) → 0 < n → n ≤ length s → Good (folded n s)
   folded_good n a b = (omega arith, omega (arith, prefix_len-le-length gap (drop n s), length-drop n s), tt)
@@ -146,7 +121,7 @@ module _ (fresh : Bool) (o : Around) (levels : List (List ℕ)) (s : List ℕ) w
   comment_good a = (comment_some s a, scan_le over_comment 0 false s, tt)
 
   mark_good : admits rule.ByteOrderMark s ≡ true → Good (found_by_rule rule.ByteOrderMark o s)
-  mark_good a = (omega arith, begins_fits (0xEF ∷ 0xBB ∷ 0xBF ∷ []) s a, tt)
+  mark_good a = grind arith
 
   other_good : (c : ℕ) → admits (cond (letter c) rule.Name rule.Unknown) s ≡ true → Good (found_by_rule (cond (letter c) rule.Name rule.Unknown) o s)
   other_good c =

@@ -1,8 +1,8 @@
 -- How far scans go.
-use Rattle.std.proofs.Common.{◌≡◌, ℕ, zero, suc, ◌+◌, ◌-◌, ◌<◌, ◌≤◌, Bool, true, false, cond, ◌&&◌, ◌||◌, eqb, List, [], ◌∷◌, length, take, drop, replicate, Some, sym, refl, ap, ◌∙◌, subst, inl, inr, one-add, arith}
+use Rattle.std.proofs.Common.{◌≡◌, ℕ, zero, suc, ◌-◌, ◌<◌, ◌≤◌, Bool, true, false, ◌&&◌, ◌||◌, eqb, List, [], ◌∷◌, length, take, drop, replicate, Some, sym, refl, ap, ◌∙◌, subst, inl, inr, one-add, arith}
 use lib.Count.{leading_le}
 use Rattle.std.proofs.lemmas.List.{length-drop}
-use Rattle.std.proofs.lemmas.Bool.{and_cases, and_parts, cases_Bool, eq-eqb, eqb-true, false≢true, or_parts, true≢false}
+use Rattle.std.proofs.lemmas.Bool.{and_cases, and_parts, eq-eqb, eqb-true, false≢true, or_parts, true≢false}
 use Rattle.std.specs.List.{prefix_len}
 use Rattle.scan.specs.Classes.{gap}
 use Rattle.scan.specs.Prefix.{begins}
@@ -13,7 +13,7 @@ use Rattle.utf8.specs.Utf8.{leading_ones, shown_length}
 use Rattle.rules.specs.Found.{Move, Stop}
 use Rattle.rules.specs.Lines.{has, mixed}
 use Rattle.rules.specs.Picks.{first_is}
-use Rattle.rules.specs.Scans.{doubled, empty, line_end, moves, opening, over_comment, over_text, scan, width}
+use Rattle.rules.specs.Scans.{empty, line_end, moves, opening, over_comment, over_text, scan, width}
 use Rattle.rules.specs.Strings.{over_string, reach, reaches}
 use Rattle.rules.proofs.Cases.{by}
 
@@ -42,25 +42,19 @@ scan_le m zero e (c ∷ s) = moved_le (λ k f. scan m k f s) (length s) (m e (c 
 -- a run whose first byte is of the class is not empty
 pub leading_some : (p q : ℕ → Bool) (s : List ℕ) → ((c : ℕ) → q c ≡ true → p c ≡ true) → first_is q s ≡ true → 0 < prefix_len p s
 leading_some p q [] f h = absurd (false≢true h)
-leading_some p q (c ∷ s) f h = subst (λ (b : Bool). 0 < cond b (1 + prefix_len p s) 0) (sym (f c h)) (omega arith)
+leading_some p q (c ∷ s) f h = grind arith
 
 pub comment_some : (s : List ℕ) → begins (35 ∷ []) s ≡ true → 0 < scan over_comment 0 false s
 comment_some [] h = absurd (false≢true h)
-comment_some (c ∷ s) h =
-    let e : 35 ≡ c = sym (eqb-true c 35 (and_parts (eqb c 35) true h).0) in
-    subst (λ (d : ℕ). 0 < scan over_comment 0 false (d ∷ s)) e (omega arith)
+comment_some (c ∷ s) h = grind arith
 
 -- where no text is passed, a line end or {{ comes first
 pub text_none : (s : List ℕ) → empty s ≡ false → scan over_text 0 false s ≡ 0 → (line_end s || begins opening s) ≡ true
 text_none [] h z = absurd (true≢false h)
-text_none (c ∷ s) h z =
-    by (λ v. moves (λ k f. scan over_text k f s) v ≡ 0 → (line_end (c ∷ s) || begins opening (c ∷ s)) ≡ true) (begins doubled (c ∷ s))
-    (λ _ e. absurd (omega arith))
-    (λ _. by (λ v. moves (λ k f. scan over_text k f s) v ≡ 0 → (line_end (c ∷ s) || begins opening (c ∷ s)) ≡ true) (line_end (c ∷ s) || begins opening (c ∷ s)) (λ a _. a) (λ _ e. absurd (omega arith)))
-    z
+text_none (c ∷ s) h z = grind arith
 
 pub delimiter_some : (k : StringKind) → 0 < length (delimiter_of k)
-delimiter_some k = by (λ d. 0 < length d) k.indented (λ _. omega arith) (λ _. omega arith)
+delimiter_some k = grind arith
 
 -- where the inside of a string leads is inside
 pub reach_le : (k : StringKind) (f : Bool) (s : List ℕ) → reaches (reach k f s) ≤ length s
@@ -101,7 +95,7 @@ unmixed s h = elim (and_cases (has 32 (take (prefix_len gap s) s)) (has 9 (take 
 ]
   where
     tabs : (c : ℕ) → gap c ≡ true → eqb c 32 ≡ false → c ≡ 9
-    tabs c g e = eqb-true c 9 (sym (ap (λ v. v || eqb c 9) e) ∙ g)
+    tabs c g e = grind arith
 
     spaces : (c : ℕ) → gap c ≡ true → eqb c 9 ≡ false → c ≡ 32
-    spaces c g e = elim (cases_Bool (eqb c 32)) [ inl y ↦ eqb-true c 32 y | inr n ↦ absurd (false≢true (sym e ∙ sym (ap (λ v. v || eqb c 9) n) ∙ g)) ]
+    spaces c g e = grind arith

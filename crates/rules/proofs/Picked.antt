@@ -1,6 +1,5 @@
 -- What stands where a rule of the table is picked.
 use Rattle.std.proofs.Common.{◌≡◌, ℕ, true, cond, eqb, ltb, List, [], ◌∷◌, refl, arith}
-use Rattle.std.proofs.lemmas.Bool.{and_from, eqb-true, ltb-true, or_left, or_right}
 use Rattle.scan.specs.Prefix.{begins}
 use Rattle.rules.specs.declared.parts.Rule.{Rule}
 use Rattle.rules.specs.declared.parts.Rule.TheVariants as rule
@@ -20,8 +19,7 @@ looked_up P c ((d picks r) ∷ rows) h other = by P (eqb c d) h.0 (λ _. looked_
 
 rows_admit : (c : ℕ) (s : List ℕ) → ltb c 128 ≡ true → Held (λ r. admits r (c ∷ s) ≡ true) c table
 unfolding Held
-rows_admit c s ascii =
-    ((λ h. or_left (eqb c 32) (eqb c 9) h), ((λ h. or_right (eqb c 32) (eqb c 9) h), ((λ h. and_from (eqb c 35) true h refl), ((λ _. refl), ((λ _. refl), ((λ _. refl), ((λ _. refl), ((λ _. refl), ((λ _. refl), ((λ _. refl), ((λ _. refl), ((λ _. refl), ((λ _. refl), ((λ _. refl), ((λ _. refl), ((λ _. refl), ((λ _. refl), ((λ _. refl), ((λ _. refl), ((λ _. refl), ((λ _. refl), ((λ _. refl), ((λ _. refl), ((λ h. and_from (eqb c 92) true h refl), ((λ h. and_from (eqb c 96) true h refl), ((λ h. and_from (eqb c 34) true h refl), ((λ h. and_from (eqb c 39) true h refl), ((λ h. let e = eqb-true c 65279 h in let l = ltb-true c 128 ascii in absurd (omega arith)), tt))))))))))))))))))))))))))))
+rows_admit c s ascii = grind arith
 
 pub picked : (s : List ℕ) → admits (pick (first_of s)) s ≡ true
 picked [] = refl

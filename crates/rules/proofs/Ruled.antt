@@ -1,6 +1,6 @@
 -- What every rule finds fits.
-use Rattle.std.proofs.Common.{◌≡◌, ℕ, ◌≤◌, Bool, true, false, not, ◌&&◌, ◌||◌, eqb, List, length, is_some, sym, refl, ◌∙◌, inl, inr, arith}
-use Rattle.std.proofs.lemmas.Bool.{and_parts, eqb-false, eqb-true, false≢true, not-true, or_cases}
+use Rattle.std.proofs.Common.{◌≡◌, ℕ, ◌≤◌, Bool, true, false, not, ◌&&◌, ◌||◌, eqb, List, length, is_some, refl, inl, arith}
+use Rattle.std.proofs.lemmas.Bool.{and_parts, eqb-false, eqb-true, not-true}
 use Rattle.scan.specs.Prefix.{begins}
 use Rattle.scan.proofs.Prefixes.{begins_fits}
 use Rattle.rules.specs.declared.found.Around.{Around}
@@ -8,7 +8,7 @@ use Rattle.rules.specs.Found.{Found}
 use Rattle.rules.specs.declared.parts.Start.{Start}
 use Rattle.rules.specs.declared.parts.Start.TheVariants.{Still, Aligned, Outward, Inward, Wrong}
 use Rattle.rules.specs.Laws.{RulesSound, Sound}
-use Rattle.rules.specs.Lines.{body, finish, indented, onward, or_else, rule, space, start, stop, told}
+use Rattle.rules.specs.Lines.{body, finish, onward, or_else, rule, space, start, stop, told}
 use Rattle.rules.specs.Scans.{closing, crlf, empty, lf, line_end, opening, over_text, scan}
 use Rattle.rules.proofs.Cases.{by}
 use Rattle.rules.proofs.Fitting.{general_good}
@@ -20,10 +20,7 @@ module _ (fresh : Bool) (o : Around) (levels : List (List ℕ)) (s : List ℕ) w
   Good f = Sound fresh o levels s f
 
   finish_good : empty s ≡ true → Good (finish o levels)
-  finish_good e =
-      by Good o.marked
-      (λ m. (e, m))
-      (λ m. by Good (indented levels) (λ i. (refl, i, inr e)) (λ i. (refl, e, i, m)))
+  finish_good e = grind arith
 
   stop_good : (o.body ≡ true) → (o.marked ≡ false) → (line_end s || begins opening s) ≡ true → Good (stop s)
   stop_good b m h =
@@ -34,10 +31,7 @@ module _ (fresh : Bool) (o : Around) (levels : List (List ℕ)) (s : List ℕ) w
       (λ n'. (omega arith, begins_fits opening s (braces n n'), (b, m))))
     where
       braces : begins lf s ≡ false → begins crlf s ≡ false → begins opening s ≡ true
-      braces n n' = elim (or_cases (line_end s) (begins opening s) h) [
-        | inl e ↦ elim (or_cases (begins lf s) (begins crlf s) e) [ inl a ↦ absurd (false≢true (sym n ∙ a)) | inr a ↦ absurd (false≢true (sym n' ∙ a)) ]
-        | inr e ↦ e
-      ]
+      braces n n' = grind arith
 
   body_good : empty s ≡ false → (o.body ≡ true) → (o.marked ≡ false) → Good (body s)
   body_good e b m =
@@ -60,8 +54,7 @@ module _ (fresh : Bool) (o : Around) (levels : List (List ℕ)) (s : List ℕ) w
       (λ _. general_good fresh o levels s e)))
 
   space_good : (n : ℕ) → n ≤ length s → (f : Found) → Good f → Good (or_else (space n) f)
-  space_good n l f g =
-      by (λ v. Good (or_else v f)) (eqb n 0) (λ _. g) (λ z. let no = eqb-false n 0 z in (omega (arith, no), l, tt))
+  space_good n l f g = grind arith
 
   told_good : fresh ≡ true → (v : Start) → Starts o levels s v → (f : Found) → Good f → Good (or_else (told v) f)
   told_good h (Still n) l f g = space_good n l f g

@@ -1,6 +1,7 @@
 -- What the start of a line finds fits.
+use Rattle.std.proofs.lemmas.Grind.{common_steps}
 use Rattle.std.proofs.Common.{◌≡◌, ℕ, ◌<◌, ◌≤◌, true, false, not, ◌&&◌, ◌||◌, List, [], ◌∷◌, length, take, drop, sym, refl, ◌∙◌, inl, inr, arith}
-use Rattle.std.proofs.lemmas.List.{length-drop, length-take, length-take-le}
+use Rattle.std.proofs.lemmas.List.{length-take, length-take-le}
 use Rattle.std.proofs.lemmas.List.Sums.{prefix_len-le-length}
 use Rattle.std.proofs.lemmas.Bool.{and_cases, and_parts, false≢true, not_from_false, or_parts, true≢false}
 use Rattle.std.specs.List.{prefix_len}
@@ -15,7 +16,7 @@ use Rattle.rules.specs.Lines.{among, line_of_blanks, deeper, indentation, indent
 use Rattle.rules.specs.Scans.{empty, line_end, is_line_over}
 use Rattle.rules.specs.Table.{nested}
 use Rattle.rules.proofs.Cases.{by}
-use Rattle.rules.proofs.Passes.{begins_shorter, some, unmixed}
+use Rattle.rules.proofs.Passes.{begins_shorter, unmixed}
 
 -- what a line starts with stands in the text
 abbrev pub Starts : Around → (levels : List (List ℕ)) → List ℕ → Start → Type 0
@@ -32,7 +33,7 @@ outward_open (c ∷ w) [] n h = absurd (false≢true h)
 outward_open w (l ∷ levels) n h = refl
 
 nothing_left : (n : ℕ) (s : List ℕ) → empty (drop n s) ≡ false → n < length s
-nothing_left n s h = omega (arith, some (drop n s) h, length-drop n s)
+nothing_left n s h = grind (arith, common_steps)
 
 module _ (o : Around) (levels : List (List ℕ)) (s : List ℕ) where
   abbrev Good : Start → Type 0

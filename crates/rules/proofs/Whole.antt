@@ -1,11 +1,11 @@
 -- What a rule finds ends between characters.
-use Rattle.std.proofs.Common.{◌≡◌, ℕ, suc, pred, ◌+◌, ◌<◌, ◌≤◌, Bool, true, false, cond, not, ◌&&◌, ◌||◌, eqb, ltb, leb, List, [], ◌∷◌, length, take, drop, is_some, Some, None, IsUtf8, Option, sym, refl, ap, ◌∙◌, subst, inl, inr, arith}
+use Rattle.std.proofs.Common.{◌≡◌, ℕ, suc, pred, ◌+◌, ◌<◌, ◌≤◌, Bool, true, false, cond, not, ◌&&◌, ◌||◌, eqb, ltb, List, [], ◌∷◌, length, take, drop, is_some, Some, None, IsUtf8, Option, refl, ap, ◌∙◌, subst, arith}
 use lib.Count.{count_leading_zeros}
 use Rattle.std.specs.Str.{IsCharBoundary}
 use Rattle.std.specs.List.{prefix_len}
 use Rattle.std.proofs.lemmas.List.{length-take-le}
 use Rattle.std.proofs.lemmas.List.Sums.{prefix_len-le-length}
-use Rattle.std.proofs.lemmas.Bool.{and_parts, eqb-true, false≢true, leb-true, ltb-true, or_cases}
+use Rattle.std.proofs.lemmas.Bool.{and_parts, eqb-true, false≢true, ltb-true}
 use Rattle.std.proofs.lemmas.Str.{IsCharBoundary-after_ascii, IsCharBoundary-from_rest, IsCharBoundary-start, IsUtf8-drop}
 use Rattle.scan.specs.Classes.{gap}
 use Rattle.scan.specs.Prefix.{begins}
@@ -43,22 +43,10 @@ Whole s (Fails c a n) = IsCharBoundary s a
 Whole s Unclosed = Unit {0}
 
 gap_low : (b : ℕ) → gap b ≡ true → b < 128
-gap_low b h = elim (or_cases (eqb b 32) (eqb b 9) h) [ inl e ↦ omega (arith, eqb-true b 32 e) | inr e ↦ omega (arith, eqb-true b 9 e) ]
-
-range_low : (a z b : ℕ) → z < 128 → (leb a b && leb b z) ≡ true → b < 128
-range_low a z b l h = omega (arith, leb-true b z (and_parts (leb a b) (leb b z) h).1)
-
-letter_low : (b : ℕ) → letter b ≡ true → b < 128
-letter_low b h = elim (or_cases (leb 97 b && leb b 122) _ h) [
-  | inl e ↦ range_low 97 122 b (omega arith) e
-  | inr e ↦ elim (or_cases (leb 65 b && leb b 90) (eqb b 95) e) [ inl f ↦ range_low 65 90 b (omega arith) f | inr f ↦ omega (arith, eqb-true b 95 f) ]
-]
+gap_low b h = grind arith
 
 name_low : (b : ℕ) → name_byte b ≡ true → b < 128
-name_low b h = elim (or_cases (letter b) _ h) [
-  | inl e ↦ letter_low b e
-  | inr e ↦ elim (or_cases (leb 48 b && leb b 57) (eqb b 45) e) [ inl f ↦ range_low 48 57 b (omega arith) f | inr f ↦ omega (arith, eqb-true b 45 f) ]
-]
+name_low b h = grind arith
 
 -- scans
 character_whole : (c : ℕ) (s : List ℕ) → IsUtf8 (c ∷ s) → WholeMove (c ∷ s) (character (c ∷ s))
@@ -164,8 +152,7 @@ Low rule.Unknown s = Unit {0}
 
 rows_low : (c : ℕ) (s : List ℕ) → ltb c 128 ≡ true → Held (λ r. Low r (c ∷ s)) c table
 unfolding Held
-rows_low c s a =
-    ((λ _. a), ((λ _. a), ((λ _. a), ((λ _. a), ((λ _. a), ((λ _. a), ((λ _. a), ((λ _. a), ((λ _. a), ((λ _. a), ((λ _. a), ((λ _. a), ((λ _. a), ((λ _. (a, refl)), ((λ _. (a, refl)), ((λ _. a), ((λ _. a), ((λ _. a), ((λ _. a), ((λ _. a), ((λ _. a), ((λ _. a), ((λ _. a), ((λ _. a), ((λ _. a), ((λ _. a), ((λ _. a), ((λ h. let e = eqb-true c 65279 h in let l = ltb-true c 128 a in absurd (omega arith)), tt))))))))))))))))))))))))))))
+rows_low c s a = grind arith
 
 low_picked : (s : List ℕ) → Low (pick (first_of s)) s
 low_picked [] = tt
@@ -251,10 +238,7 @@ module _ (o : Around) (levels : List (List ℕ)) (s : List ℕ) (u : IsUtf8 s) w
       (λ m. begins_edge opening s u refl (omega arith) (braces n m)))
     where
       braces : begins lf s ≡ false → begins crlf s ≡ false → begins opening s ≡ true
-      braces n m = elim (or_cases (line_end s) (begins opening s) h) [
-        | inl e ↦ elim (or_cases (begins lf s) (begins crlf s) e) [ inl a ↦ absurd (false≢true (sym n ∙ a)) | inr a ↦ absurd (false≢true (sym m ∙ a)) ]
-        | inr e ↦ e
-      ]
+      braces n m = grind arith
 
   body_whole : empty s ≡ false → Whole s (body s)
   body_whole e =

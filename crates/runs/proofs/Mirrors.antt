@@ -23,7 +23,7 @@ use Rattle.lexer.specs.States.{Inner, Rooms, State, ahead, around, level_texts, 
 use Rattle.lexer.specs.declared.seen.Seen.{Seen}
 use Rattle.lexer.proofs.Came.{came, fitting, token_within}
 use Rattle.runs.specs.Opens.{Open, Pair, changes, closed, effects, format, lexeme, opened, pair_of}
-use Rattle.runs.specs.Orders.{Deeper, Filled, Matches, Nest, Orderly, Proper, newest as newest_pair}
+use Rattle.runs.specs.Orders.{Deeper, Filled, Matches, Nest, Orderly, Proper}
 use Rattle.runs.proofs.Enough.{ahead_after}
 
 -- what the tokens leave open is what the state holds open, and the state is sound
@@ -80,11 +80,11 @@ paired (FormatString j) (FormatString k) h = refl
 paired Paren Paren h = refl
 paired _ _ h = cc
 
-closes_newest : (d : Delimiter) (ds : List Delimiter) → Shaped d (newest ds) → newest_pair (map pair_of ds) ≡ Some (pair_of d)
+closes_newest : (d : Delimiter) (ds : List Delimiter) → Shaped d (newest ds) → newest (map pair_of ds) ≡ Some (pair_of d)
 closes_newest d [] h = absurd h
 closes_newest d (e ∷ ds) h = ap (λ (p : Pair). Some p) (paired d e h)
 
-ends_newest : (ds : List Delimiter) → is_some (format_of (newest ds)) ≡ true → newest_pair (map pair_of ds) ≡ Some format
+ends_newest : (ds : List Delimiter) → is_some (format_of (newest ds)) ≡ true → newest (map pair_of ds) ≡ Some format
 ends_newest [] h = cc
 ends_newest (FormatString k ∷ ds) h = refl
 ends_newest (_ ∷ ds) h = cc
@@ -92,8 +92,8 @@ ends_newest (_ ∷ ds) h = cc
 matches : (c : Change) (σ : State) (o : Open) → Mirrors σ o → Allows (around σ) c → Matches c o
 matches change.Marks σ o m a = sym m.marked ∙ a.1
 matches change.Unmarks σ o m a = sym m.marked ∙ a.0
-matches (change.Closes d) σ o m a = ap newest_pair (sym m.openers) ∙ closes_newest d σ.standing.inner.openers a
-matches change.EndsFormat σ o m a = ap newest_pair (sym m.openers) ∙ ends_newest σ.standing.inner.openers a
+matches (change.Closes d) σ o m a = ap newest (sym m.openers) ∙ closes_newest d σ.standing.inner.openers a
+matches change.EndsFormat σ o m a = ap newest (sym m.openers) ∙ ends_newest σ.standing.inner.openers a
 matches _ σ o m a = tt
 
 empty_length : (s : List ℕ) → empty s ≡ true → length s ≡ 0

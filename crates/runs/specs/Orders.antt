@@ -1,5 +1,5 @@
 -- What may stand where, by what is open.
-use Rattle.std.specs.Prelude.{◌≡◌, ℕ, ◌<◌, true, false, List, [], ◌∷◌, length, replicate, Some, None, Option}
+use Rattle.std.specs.Prelude.{◌≡◌, ℕ, ◌<◌, true, false, List, [], ◌∷◌, length, replicate, Some}
 use Rattle.token.specs.declared.place.Token.{Token}
 use Rattle.scan.specs.Classes.{gap}
 use Rattle.scan.specs.Prefix.{begins}
@@ -9,7 +9,8 @@ use Rattle.rules.specs.declared.parts.Change.{Change}
 use Rattle.rules.specs.declared.parts.Change.TheVariants as change
 use Rattle.rules.specs.declared.parts.Effect.{Effect}
 use Rattle.rules.specs.declared.parts.Effect.TheVariants.{Indents, Dedents, Texts, Ends, Other}
-use Rattle.runs.specs.Opens.{Open, Pair, format, lexeme, opened, pair_of}
+use Rattle.lexer.specs.States.{newest}
+use Rattle.runs.specs.Opens.{Open, format, lexeme, opened, pair_of}
 
 -- a run of one character, space or tab, of which the innermost of others is a shorter beginning
 pub record Deeper (outer : List (List ℕ)) (w : List ℕ) : Type 0 where
@@ -21,10 +22,6 @@ pub record Deeper (outer : List (List ℕ)) (w : List ℕ) : Type 0 where
 abbrev pub Nest : List (List ℕ) → Type 0
 Nest [] = Unit {0}
 Nest (w ∷ ws) = Deeper ws w × Nest ws
-
-abbrev pub newest : List Pair → Option Pair
-newest [] = None
-newest (p ∷ ps) = Some p
 
 -- the marks of a body alternate, and what closes matches the newest that is open
 abbrev pub Matches : Change → Open → Type 0

@@ -21,6 +21,7 @@ use Rattle.source.specs.Places.{walk}
 use Rattle.source.specs.declared.cursor.Cursor.{Cursor}
 use Rattle.source.proofs.Walks.{ahead_behind, walk_offset}
 use Rattle.lines.specs.Reaches.{settled}
+use Rattle.lines.specs.declared.reached.Reach.{Reach}
 use Rattle.lines.proofs.Settled.{settled_drop}
 use Rattle.token.specs.declared.place.Position.{Position}
 use Rattle.session.proofs.Finds.{cursor_text}
@@ -44,9 +45,9 @@ module _ (s : Session) (t : Token) (e : answer (state_of s) ≡ Ok (Some t)) (c 
   pub shallow_behind : length (stacked s.levels) ≤ c.position.offset
   shallow_behind = omega (arith, offset, s.shallow)
 
-  pub settled_behind : (m : ℕ) → m ≡ s.blank.length - t.length → settled s.blank.outdents m (ahead_of c) ≡ true
-  settled_behind m d =
-      (λ i. settled s.blank.outdents (d i) (ahead_behind s.cursor c t.length within k w i))
+  pub settled_behind : (r : Reach) → r.length ≡ s.blank.length - t.length → r.outdents ≡ s.blank.outdents → settled r.outdents r.length (ahead_of c) ≡ true
+  settled_behind r l o =
+      (λ i. settled (o i) (l i) (ahead_behind s.cursor c t.length within k w i))
       ∙ settled_drop s.blank.outdents t.length s.blank.length (ahead_of s.cursor) s.settled
 
   -- an Indent has bytes of its own before the place

@@ -1,9 +1,7 @@
 -- What a session value stands for.
-use Rattle.std.specs.Prelude.{List}
 use Rattle.source.specs.Sources.{text_of}
 use Rattle.stack.specs.Held.{room, stacked}
 use Rattle.lexer.specs.States.{Inner, Standing, State}
-use Rattle.token.specs.declared.kinds.Delimiter.{Delimiter}
 use Rattle.session.specs.declared.record.Session.{Session}
 
 abbrev pub state_of : Session → State
@@ -29,7 +27,3 @@ turned σ i = stands σ (record σ.standing { inner = i })
 
 abbrev pub inner_of : State → Inner
 inner_of σ = σ.standing.inner
-
--- the openers are others
-abbrev pub opened : State → List Delimiter → State
-opened σ ds = turned σ (record σ.standing.inner { openers = ds })

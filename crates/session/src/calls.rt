@@ -65,7 +65,7 @@ impl<'a, 't> Session<'a, 't> {
         self.here()
     }
 
-    // Its place. A method on a change of the session cannot read the cursor itself.
+    // The cursor's place, for the methods on `&mut self` too: a cursor that is read there has no generated proof.
     pub(crate) fn here(&self) -> Position
         ensures { result ≡ self.now.cursor.position }
     {

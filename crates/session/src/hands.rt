@@ -2,7 +2,7 @@ ghost use Rattle.std.specs.Prelude.{◌≡◌, ◌<◌, true, false, [], ◌∷�
 ghost use Rattle.stack.specs.Held.{fits, stacked};
 ghost use Rattle.lexer.specs.Answers.{after, answer as answer_of, behind, changed, full_by, lacks, seen as seen_of, stood};
 ghost use Rattle.source.specs.Cursors.{ahead as ahead_of};
-ghost use Rattle.session.specs.Sessions.{inner_of, opened, stands, state_of, turned};
+ghost use Rattle.session.specs.Sessions.{inner_of, stands, state_of, turned};
 
 use crate::passing::pass;
 use crate::record::Session;
@@ -46,14 +46,14 @@ impl<'a, 't> Session<'a, 't> {
     // A delimiter is opened.
     fn opens(&mut self, d: Delimiter)
         requires { fits self.old.openers ≡ true }
-        ensures { state_of self.new ≡ opened (state_of self.old) (d ∷ (inner_of (state_of self.old)).openers) }
+        ensures { let i = inner_of (state_of self.old) in state_of self.new ≡ turned (state_of self.old) (record i { openers = d ∷ i.openers }) }
     {
         self.openers.push(d).unwrap();
     }
 
     // The newest opener is closed.
     fn closes(&mut self)
-        ensures { state_of self.new ≡ opened (state_of self.old) (behind (inner_of (state_of self.old)).openers) }
+        ensures { let i = inner_of (state_of self.old) in state_of self.new ≡ turned (state_of self.old) (record i { openers = behind i.openers }) }
     {
         self.openers.pop();
     }
@@ -106,7 +106,7 @@ impl<'a, 't> Session<'a, 't> {
         let n = t.length as usize;
         let seen = self.seen(t);
         pass(&mut self.cursor, n);
-        self.blank.length = self.blank.length.saturating_sub(n);
+        self.blank = self.blank.behind(n);
         self.shift(effect(t.kind), t, seen);
     }
 }

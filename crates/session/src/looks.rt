@@ -12,7 +12,7 @@ use rules::{Around, Found};
 
 impl<'a, 't> Session<'a, 't> {
     // What the rules see of it.
-    pub(crate) fn around(&self) -> Around
+    fn around(&self) -> Around
         ensures { result ≡ around_of (state_of self.now) }
     {
         Around {

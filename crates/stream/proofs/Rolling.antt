@@ -1,6 +1,6 @@
 -- The tokens behind a roll's cursor.
 use Rattle.std.proofs.Common.{◌≡◌, ℕ, zero, suc, ◌+◌, ◌<◌, ◌≤◌, List, [], ◌∷◌, length, take, drop, None, sym, refl, ap, ◌∙◌, arith}
-use Rattle.std.proofs.lemmas.List.{drop-drop, length-drop}
+use Rattle.std.proofs.lemmas.List.{drop-drop, drop_all, length-drop, length-take}
 use Rattle.token.specs.declared.place.Token.{Token}
 use Rattle.stack.specs.Held.{at, first}
 use Rattle.lexer.specs.Answers.{behind}
@@ -17,13 +17,7 @@ entry_first (x ∷ xs) (suc i) (suc n) l = entry_first xs i n (omega arith)
 
 -- and behind the limit there is none
 pub none_first : {A : Type 0} (xs : List A) (i n : ℕ) → n ≤ i → first (drop i (take n xs)) ≡ None
-none_first [] zero zero l = refl
-none_first (x ∷ xs) zero zero l = refl
-none_first xs zero (suc n) l = absurd (omega arith)
-none_first [] (suc i) zero l = refl
-none_first [] (suc i) (suc n) l = refl
-none_first (x ∷ xs) (suc i) zero l = refl
-none_first (x ∷ xs) (suc i) (suc n) l = none_first xs i n (omega arith)
+none_first xs i n l = ap first (drop_all i (take n xs) (omega (arith, length-take n xs)))
 
 -- all behind the first is what a step on leaves
 behind_drop : {A : Type 0} (xs : List A) (i : ℕ) → behind (drop i xs) ≡ drop (i + 1) xs
@@ -43,10 +37,4 @@ means_forward r = λ i. record { tokens = passed_on (take 98305 r.entries) r.cur
 
 -- no more than the limit
 pub few : (r : Rolled) → length (coming r) ≤ 98305
-few r = omega (arith, length-drop r.cursor (take 98305 r.entries), short 98305 r.entries)
-  where
-    short : (n : ℕ) (xs : List Token) → length (take n xs) ≤ n
-    short zero [] = omega arith
-    short zero (x ∷ xs) = omega arith
-    short (suc n) [] = omega arith
-    short (suc n) (x ∷ xs) = omega (arith, short n xs)
+few r = omega (arith, length-drop r.cursor (take 98305 r.entries), length-take 98305 r.entries)

@@ -86,25 +86,22 @@ module _ {A : Type 0} (meaning : A → Meaning) (stays moves : A → A → Type 
   few_here b o l = omega (arith, sift_few (meaning b).tokens, ap (λ (m : Meaning). length m.tokens) o.sifts)
 
   -- the way ends at an answer that is no Whitespace
-  module _ (b c : A) (r : Result (Option Token) Fault) (o : Going b) (e : r ≡ tell (meaning b)) (h : Solid r) where
-    same : Same (meaning b)
-    same = same_by (meaning b).tokens (meaning b).ending (subst Solid e h)
+  module _ (b c : A) (r : Result (Option Token) Fault) (o : Going b) (h : Solid r) where
+    same : r ≡ tell (meaning b) → Same (meaning b)
+    same e = same_by (meaning b).tokens (meaning b).ending (subst Solid e h)
 
-    gives : r ≡ tell (sifted meaning a)
-    gives = e ∙ sym same.told ∙ ap tell o.sifts
+    gives : r ≡ tell (meaning b) → r ≡ tell (sifted meaning a)
+    gives e = e ∙ sym (same e).told ∙ ap tell o.sifts
 
     pub shown : Glances meaning stays b r c → Glances (sifted meaning) (Shown meaning stays moves) a r c
-    shown g = record {
-      gives = gives;
-      leaves = (going_looks b c o g.leaves g.keeps).sifts;
-      few = few_here b o g.few;
-      keeps = record { exactly = (going_looks b c o g.leaves g.keeps).skips; calls = looks o.trail g.keeps };
-    }
+    shown g =
+        let w : Going c = going_looks b c o g.leaves g.keeps in
+        record { gives = gives g.gives; leaves = w.sifts; few = few_here b o g.few; keeps = record { exactly = w.skips; calls = w.trail } }
 
     pub past : Nexts meaning moves b r c → Nexts (sifted meaning) (Past meaning stays moves) a r c
     past n = record {
-      gives = gives;
-      leaves = ap sift n.leaves ∙ same.rests ∙ ap rest o.sifts;
+      gives = gives n.gives;
+      leaves = ap sift n.leaves ∙ (same n.gives).rests ∙ ap rest o.sifts;
       few = few_here b o n.few;
-      steps = record { exactly = n.leaves ∙ ap rest (sym same.skips ∙ o.skips); calls = (b, o.trail, n.steps) };
+      steps = record { exactly = n.leaves ∙ ap rest (sym (same n.gives).skips ∙ o.skips); calls = (b, o.trail, n.steps) };
     }

@@ -1,4 +1,5 @@
-ghost use Rattle.std.specs.Prelude.{◌≡◌, ◌≤◌, ◌==◌, true, false, length};
+ghost use Rattle.std.specs.Prelude.{◌≡◌, ◌≤◌, ◌==◌, true, false, [], ◌∷◌, length};
+ghost use Rattle.scan.specs.Prefix.{begins};
 ghost use Rattle.rules.specs.Picks.{admits};
 ghost use Rattle.rules.specs.Scans.{empty};
 ghost use Rattle.table.specs.Finds.{chosen};
@@ -28,7 +29,7 @@ fn first(ahead: &[u8]) -> char
     ensures { result ≡ first_of ahead.now }
 {
     match ahead {
-        [c, ..] if *c < 128 => *c as char,
+        [c, ..] if c.is_ascii() => char::from(*c),
         _ if starts(ahead, &[0xEF, 0xBB, 0xBF]) => '\u{feff}',
         _ => '\u{fffd}',
     }
@@ -178,18 +179,17 @@ fn folded(n: usize, ahead: &[u8]) -> Found
     Ok((TokenKind::Whitespace, n + leading::<Gap>(&ahead[n..])))
 }
 
+// A backslash, which folds the line end behind it.
+#[tactic(auto, using(crate::proofs::Escapes::escape_behind))]
 fn escape(ahead: &[u8]) -> Found
-    requires { empty ahead.now ≡ false }
+    requires { begins (92 ∷ []) ahead.now ≡ true }
     ensures { result ≡ escape_of ahead.now }
 {
-    if starts(ahead, b"\\\n") {
-        folded(2, ahead)
-    } else if starts(ahead, b"\\\r\n") {
-        folded(3, ahead)
-    } else if starts(ahead, b"\\\r") {
-        Err(Miss::Fails(Layout::UnpairedCarriageReturn, 0, 2))
-    } else {
-        stray(&ahead[1..])
+    let (_, behind) = ahead.split_at(1);
+    match line_end(behind) {
+        Some(n) => folded(1 + n, ahead),
+        None if starts(behind, b"\r") => Err(Miss::Fails(Layout::UnpairedCarriageReturn, 0, 2)),
+        None => stray(behind),
     }
 }
 
@@ -234,6 +234,7 @@ fn by_rule(rule: Rule, around: Around, ahead: &[u8]) -> Found
 }
 
 // What the general table finds.
+#[tactic(auto, using(rules::proofs::Picked::picked))]
 pub fn general(around: Around, ahead: &[u8]) -> Found
     ensures { result ≡ general_of around ahead.now }
 {

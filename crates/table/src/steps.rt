@@ -13,6 +13,7 @@ pub trait Steps {
 }
 
 // How many bytes a scan passes.
+#[tactic(auto, using(crate::proofs::Turns::turn))]
 pub fn passed<S: Steps>(steps: &S, bytes: &[u8]) -> usize
     ensures is { result ≡ scan (S.Steps.moves steps.now) 0 false bytes.now }
     ensures within { result ≤ length bytes.now }

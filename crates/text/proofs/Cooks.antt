@@ -1,5 +1,5 @@
 -- Piece by piece, to the end of the text.
-use Rattle.std.proofs.Common.{◌≡◌, ℕ, ◌+◌, Bool, true, false, cond, List, ◌∷◌, ◌++◌, length, Ok, Err, IsUtf8, Result, sym, refl, ap, ◌∙◌, arith}
+use Rattle.std.proofs.Common.{◌≡◌, ℕ, ◌+◌, Bool, true, false, cond, List, ◌∷◌, ◌++◌, length, Ok, Err, IsUtf8, Result, sym, refl, ap, ◌∙◌, arith, ◌≤◌, MatchResult, IfOk}
 use Rattle.std.specs.List.{flat_map}
 use Rattle.std.specs.Str.{chars}
 use Rattle.std.proofs.lemmas.Str.{chars-append, encodes-chars}
@@ -14,7 +14,7 @@ use Rattle.unindent.specs.Left.{left}
 use Rattle.unindent.specs.declared.record.Pieces.{Pieces}
 use Rattle.unindent.proofs.Turns.{pieces_text}
 use Rattle.text.specs.Cooked.{cooked, cooked_by, flat}
-use Rattle.text.specs.Fedby.{bytes_of, sized, summed}
+use Rattle.text.specs.Fedby.{bytes_of, from_ok, onto, sized, summed}
 
 abbrev pub laid : List (List ℕ) → List ℕ
 laid ps = flat_map (λ p. p) ps
@@ -51,6 +51,14 @@ not_ended (Ok f) s n x e h =
     let q : f.state ≡ s = ap (λ (z : State × ℕ). z.0) p in
     ap (λ y. sealed y f.bytes) (ap ended q ∙ sym h)
 not_ended (Err y) s n x e h = absurd (let z : ◌≡◌ {A = ℕ} 0 1 = cc in omega arith)
+
+-- what is answered at the end of a text, and what is written then
+pub answered : (r : Result Fed Escape) (s : State) (n : ℕ) (out after : List ℕ) (e : Result ℕ Escape) → summed 0 r ≡ Ok (s, n) → (n ≤ length out → after ≡ onto (bytes_of r) out) → MatchResult e (λ m. (Ok tt ≡ ended s) × (m ≡ n)) (λ x. Err x ≡ ended s)
+    → (e ≡ sized (close r)) × IfOk e (λ m. m ≤ length out → after ≡ onto (from_ok (close r)) out)
+answered r s n out after (Ok m) g w h =
+    let c = closed_well r s n g h.0 in
+    (ap Ok (h.1 ∙ sym c.1) ∙ sym (ap sized c.0), λ l. w (omega (arith, h.1)) ∙ ap (λ t. onto (from_ok t) out) (sym c.0))
+answered r s n out after (Err x) g w h = (sym (ap sized (not_ended r s n x g h)), tt)
 
 -- a length tells its text, and a refusal itself
 pub sized_err : (r : Result (List ℕ) Escape) (x : Escape) → Err x ≡ sized r → r ≡ Err x

@@ -1,3 +1,3 @@
 mod Written
-pub mod Seams
+mod Stripped
 mod Cooks

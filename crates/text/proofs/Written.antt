@@ -55,8 +55,8 @@ pub record Sofar (from at : ℕ) (s : State) (cs out start : List ℕ) (whole : 
   pub lies : at ≤ length start → out ≡ over from written start
   pub same : length out ≡ length start
 
-pub sofar_start : (at : ℕ) (s : State) (cs out : List ℕ) → Sofar at at s cs out out (feed s cs)
-sofar_start at s cs out = record { written = []; front = by (feed s cs); place = omega arith; lies = λ _. sym (over_none at out); same = refl }
+pub sofar_start : (from at : ℕ) (s : State) (cs out : List ℕ) → at ≡ from → Sofar from at s cs out out (feed s cs)
+sofar_start from at s cs out e = record { written = []; front = by (feed s cs); place = omega arith; lies = λ _. sym (over_none from out); same = refl }
   where
     by : (r : Result Fed Escape) → before [] r ≡ r
     by (Ok f) = refl

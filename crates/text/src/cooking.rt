@@ -4,9 +4,9 @@ ghost use Rattle.unindent.specs.Left.{left};
 ghost use Rattle.text.specs.Cooked.{cooked, flat};
 ghost use Rattle.text.specs.Fedby.{from_ok, onto, sized};
 
-use crate::feeding::write;
+use crate::feeding::Writer;
 use crate::literal::Literal;
-use unescape::{Escape, Unescape};
+use unescape::Escape;
 use unindent::Pieces;
 
 impl<'a> Literal<'a> {
@@ -30,12 +30,10 @@ impl<'a> Literal<'a> {
         ensures fills { IfOk result (λ n. n ≤ length out.old → out.new ≡ onto (from_ok (cooked self.entry.kind self.entry.inner.now)) out.old) }
     {
         let mut pieces = self.pieces();
-        let mut machine = Unescape::new(self.kind.processes_escape_sequences());
-        let mut end = 0;
+        let mut writer = Writer::new(self.kind.processes_escape_sequences());
         while let Some(piece) = pieces.next() {
-            end = write(&mut machine, piece, end, out)?;
+            writer.write(piece, out)?;
         }
-        machine.end()?;
-        Ok(end)
+        writer.end()
     }
 }

@@ -1,15 +1,14 @@
-// Writers of characters: each lays its bytes into a buffer from a place on, as far as all of them fit, and answers the place behind them.
-
-ghost use Rattle.std.specs.Prelude.{◌≡◌, ◌+◌, ◌*◌, ◌^◌, ◌<◌, ◌≤◌, [], ◌∷◌, length, IfOk, Ok, Err, IsUtf8, MatchResult};
+ghost use Rattle.std.specs.Prelude.{◌≡◌, ◌+◌, ◌*◌, ◌^◌, ◌<◌, ◌≤◌, [], ◌∷◌, length, IfOk, Ok, Err, IsUtf8, MatchResult, if◌then◌else◌};
 ghost use Rattle.std.proofs.Math.Utf8.{encode};
 ghost use Rattle.std.specs.Char.{len_utf8};
 ghost use Rattle.std.specs.Str.{chars};
-ghost use Rattle.unescape.specs.Escapes.{feed};
+ghost use Rattle.unescape.specs.Escapes.{ended, feed};
+ghost use Rattle.unescape.specs.declared.record.State.TheVariants.{Raw, Initial};
 ghost use Rattle.text.specs.Fedby.{bytes_of, over, summed};
 
 use unescape::{Escape, Unescape};
 
-// A character as it is.
+// Lays a character into a buffer from a place on, if all of it fits, and answers the place behind it.
 fn put(c: char, at: usize, out: &mut [u8]) -> usize
     requires { at < 2 ^ 32 }
     ensures is { result ≡ at + len_utf8 c }
@@ -24,35 +23,57 @@ fn put(c: char, at: usize, out: &mut [u8]) -> usize
     end
 }
 
-// What a character gives.
-fn place(machine: &mut Unescape, c: char, at: usize, out: &mut [u8]) -> Result<usize, Escape>
-    requires { at < 2 ^ 32 }
-    ensures gives { MatchResult result (λ n. summed at (feed machine.old.state (c ∷ [])) ≡ Ok (machine.new.state, n)) (λ e. summed at (feed machine.old.state (c ∷ [])) ≡ Err e) }
-    ensures near { IfOk result (λ n. n ≤ at + 4) }
-    ensures writes { IfOk result (λ n. n ≤ length out.old → out.new ≡ over at (bytes_of (feed machine.old.state (c ∷ []))) out.old) }
-{
-    match machine.step(c)? {
-        None => Ok(at),
-        Some(given) => Ok(put(given, at, out)),
-    }
+// What unescaping gives is laid into a buffer up to a place, as far as all of it fits. Where it is refused, the state is open.
+#[derive(Drop)]
+pub(crate) struct Writer {
+    machine: Unescape,
+    end: usize,
 }
 
-// What a piece of text gives. Where it is refused, the state is open.
-pub(crate) fn write(
-    machine: &mut Unescape,
-    text: &str,
-    at: usize,
-    out: &mut [u8],
-) -> Result<usize, Escape>
-    requires { at + 4 * length text.now < 2 ^ 32 }
-    ensures gives { MatchResult result (λ n. summed at (feed machine.old.state (chars text.now)) ≡ Ok (machine.new.state, n)) (λ e. summed at (feed machine.old.state (chars text.now)) ≡ Err e) }
-    ensures near { IfOk result (λ n. n ≤ at + 4 * length text.now) }
-    ensures writes { IfOk result (λ n. n ≤ length out.old → out.new ≡ over at (bytes_of (feed machine.old.state (chars text.now))) out.old) }
-    ensures utf8 { IsUtf8 text.now }
-{
-    let mut end = at;
-    for c in text.chars() {
-        end = place(machine, c, end, out)?;
+impl Writer {
+    // At the start of a buffer, with escape sequences or without.
+    pub(crate) fn new(escapes: bool) -> Self
+        ensures state { result.machine.state ≡ (if escapes then Initial else Raw) }
+        ensures end { result.end ≡ 0 }
+    {
+        Writer {
+            machine: Unescape::new(escapes),
+            end: 0,
+        }
     }
-    Ok(end)
+
+    // What a character gives.
+    fn place(&mut self, c: char, out: &mut [u8]) -> Result<(), Escape>
+        requires { self.old.end < 2 ^ 32 }
+        ensures gives { MatchResult result (λ _. summed self.old.end (feed self.old.machine.state (c ∷ [])) ≡ Ok (self.new.machine.state, self.new.end)) (λ e. summed self.old.end (feed self.old.machine.state (c ∷ [])) ≡ Err e) }
+        ensures near { self.new.end ≤ self.old.end + 4 }
+        ensures writes { IfOk result (λ _. self.new.end ≤ length out.old → out.new ≡ over self.old.end (bytes_of (feed self.old.machine.state (c ∷ []))) out.old) }
+    {
+        if let Some(given) = self.machine.step(c)? {
+            self.end = put(given, self.end, out);
+        }
+        Ok(())
+    }
+
+    // What a piece of text gives.
+    pub(crate) fn write(&mut self, text: &str, out: &mut [u8]) -> Result<(), Escape>
+        requires { self.old.end + 4 * length text.now < 2 ^ 32 }
+        ensures gives { MatchResult result (λ _. summed self.old.end (feed self.old.machine.state (chars text.now)) ≡ Ok (self.new.machine.state, self.new.end)) (λ e. summed self.old.end (feed self.old.machine.state (chars text.now)) ≡ Err e) }
+        ensures near { IfOk result (λ _. self.new.end ≤ self.old.end + 4 * length text.now) }
+        ensures writes { IfOk result (λ _. self.new.end ≤ length out.old → out.new ≡ over self.old.end (bytes_of (feed self.old.machine.state (chars text.now))) out.old) }
+        ensures utf8 { IsUtf8 text.now }
+    {
+        for c in text.chars() {
+            self.place(c, out)?;
+        }
+        Ok(())
+    }
+
+    // At the end of a text: how many bytes it has, if it may end here.
+    pub(crate) fn end(&self) -> Result<usize, Escape>
+        ensures { MatchResult result (λ n. (Ok tt ≡ ended self.now.machine.state) × (n ≡ self.now.end)) (λ e. Err e ≡ ended self.now.machine.state) }
+    {
+        self.machine.end()?;
+        Ok(self.end)
+    }
 }

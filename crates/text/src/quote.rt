@@ -1,7 +1,5 @@
-ghost use Rattle.std.specs.Prelude.{◌≡◌, ◌≤◌, true, length, IfSome, Some, None, MatchOption};
-ghost use Rattle.scan.specs.Prefix.{begins};
-ghost use Rattle.token.specs.Strings.{delimiter_of};
-ghost use Rattle.text.specs.Quotes.{closed_by, first_of, literal as literal_of, quotes, stripped};
+ghost use Rattle.std.specs.Prelude.{◌≡◌, ◌≤◌, length, Some, None, MatchOption};
+ghost use Rattle.text.specs.Quotes.{first_of, literal as literal_of, quotes};
 
 use crate::literal::Literal;
 use scan::starts;
@@ -27,40 +25,14 @@ const QUOTES: [StringKind; 4] = [
     },
 ];
 
-// Whether bytes begin with the delimiter of a kind.
-fn opens(bytes: &[u8], kind: StringKind) -> bool
-    ensures { result ≡ begins (delimiter_of kind) bytes.now }
-{
-    starts(bytes, kind.delimiter().as_bytes())
-}
-
 // The first kind of quotes whose delimiter bytes begin with.
 fn quote(bytes: &[u8]) -> Option<StringKind>
     ensures { result ≡ first_of quotes bytes.now }
 {
-    QUOTES.iter().copied().find(|kind| opens(bytes, *kind))
-}
-
-// Whether bytes end with the delimiter of a kind, and are at least twice as long.
-fn closes(bytes: &[u8], kind: StringKind) -> bool
-    ensures { result ≡ closed_by (delimiter_of kind) bytes.now }
-{
-    let n = kind.delimiter().len();
-    if bytes.len() < 2 * n {
-        return false;
-    }
-    opens(&bytes[bytes.len() - n..], kind)
-}
-
-// What stands between the delimiters.
-fn inner(lexeme: &str, kind: StringKind) -> &str
-    requires opened { begins (delimiter_of kind) lexeme.now ≡ true }
-    requires closed { closed_by (delimiter_of kind) lexeme.now ≡ true }
-    ensures { result.now ≡ stripped (length (delimiter_of kind)) lexeme.now }
-{
-    let n = kind.delimiter().len();
-    let end = lexeme.as_bytes().len() - n;
-    &lexeme[n..end]
+    QUOTES
+        .iter()
+        .copied()
+        .find(|kind| starts(bytes, kind.delimiter().as_bytes()))
 }
 
 impl<'a> Literal<'a> {
@@ -70,12 +42,8 @@ impl<'a> Literal<'a> {
         ensures { MatchOption result (literal_of lexeme.now ≡ None) (λ l. literal_of lexeme.now ≡ Some (l.kind, l.inner.now)) }
     {
         let kind = quote(lexeme.as_bytes())?;
-        if !closes(lexeme.as_bytes(), kind) {
-            return None;
-        }
-        Some(Literal {
-            kind,
-            inner: inner(lexeme, kind),
-        })
+        let delimiter = kind.delimiter();
+        let inner = lexeme.strip_prefix(delimiter)?.strip_suffix(delimiter)?;
+        Some(Literal { kind, inner })
     }
 }

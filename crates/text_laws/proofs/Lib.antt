@@ -1,3 +1,4 @@
 mod Longest
 mod Plain
+mod Seams
 mod Sound

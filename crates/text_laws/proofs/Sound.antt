@@ -23,7 +23,7 @@ use Rattle.unindent.proofs.Turns.{unindented_text}
 use Rattle.text.specs.Cooked.{cooked, flat}
 use Rattle.text.specs.Quotes.{closed, closed_by, first_of, literal, quotes, stripped}
 use Rattle.text.specs.Texts.{on_cooked, on_lexeme, on_literal, string_text}
-use Rattle.text.proofs.Seams.{twice, start_seam, end_seam}
+use Rattle.text_laws.proofs.Seams.{twice, start_seam, end_seam}
 
 -- what a step gives is a scalar value
 abbrev Out : Option ℕ → Type 0

@@ -17,19 +17,11 @@ pub fn unquoted(literal: &[u8], buffer: &mut [u8]) -> Result<usize, Fault>
     ensures fills { buffer.new ≡ text_buffer (whole_text literal.now) buffer.old }
 {
     let mut source = Source::new();
-    match source.admit(literal) {
-        Err(fault) => Err(fault),
-        Ok(()) => {
-            let token = Token {
-                kind: TokenKind::StringToken,
-                position: Position {
-                    offset: 0,
-                    line: 0,
-                    column: 0,
-                },
-                length: literal.len() as u32,
-            };
-            text(&source, token, buffer)
-        }
-    }
+    source.admit(literal)?;
+    let token = Token {
+        kind: TokenKind::StringToken,
+        position: Position::default(),
+        length: literal.len() as u32,
+    };
+    text(&source, token, buffer)
 }

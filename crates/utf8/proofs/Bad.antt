@@ -1,8 +1,9 @@
 -- Where the first bad sequence of bytes begins.
 use Rattle.std.proofs.Common.{◌≡◌, ℕ, zero, suc, pred, ◌+◌, ◌-◌, ◌<◌, ◌≤◌, true, not, eqb, leb, List, [], ◌∷◌, ◌++◌, length, take, drop, is_some, Some, None, IsUtf8, Option, sym, refl, ap, ◌∙◌, subst, arith}
+use Rattle.std.specs.Bool.{then_some}
 use lib.Utf8.{scalars, scalar, encode, encodes}
 use Rattle.std.specs.Str.{IsCharBoundary}
-use Rattle.std.proofs.lemmas.List.{append_assoc, append-nil, length-append, length-drop, take-append-drop, drop_at, drop-drop, take_rest}
+use Rattle.std.proofs.lemmas.List.{append_assoc, append-nil, length-append, length-drop, take-append-drop, drop_at, take_rest}
 use Rattle.std.proofs.lemmas.Bool.{and_parts, and_from, cond-true, cond-false, ne_eqb, eq-eqb, leb-true, le-leb, false≢true}
 use Rattle.std.proofs.lemmas.Str.{IsUtf8-append, IsUtf8-take, IsCharBoundary-from_take, length-encode, len_utf8_bounds, IsUtf8-nil}
 use Rattle.utf8.specs.Utf8.{character, bad_from, first_bad_offset, well_formed, bound}
@@ -24,23 +25,30 @@ passed at n (b ∷ bs) e =
     ∙ owed (suc at) n bs (omega arith)
     ∙ ap (λ k. bad_from k 0 (drop n bs)) (let q : suc at + n ≡ at + suc n = omega arith in q)
 
--- one turn over the bytes from a place on
 stopped : (at : ℕ) (bs : List ℕ) → 0 < length bs → character bs ≡ 0 → bad_from at 0 bs ≡ Some at
 stopped at [] h e = absurd (omega arith)
 stopped at (b ∷ bs) h e = cond-true (eqb (character (b ∷ bs)) 0) (Some at) _ (eq-eqb _ 0 e)
 
-module _ (bs : List ℕ) (at n : ℕ) (h : at < length bs) (e : n ≡ character (take (length bs - at) (drop at bs))) where
-  here : n ≡ character (drop at bs)
-  here = e ∙ ap character (take_rest bs at)
+-- one turn, in which n of the k bytes that are left of m are passed
+pub turn : (m n : ℕ) (rest : List ℕ) → length rest ≤ m → 0 < n → n ≤ length rest → n ≡ character rest → let r = take (length rest - n) (drop n rest) in (length r + n ≡ length rest) × (bad_from (m - length rest) 0 rest ≡ bad_from (m - length r) 0 r)
+turn m n rest l z w e =
+    let k : suc (pred n) ≡ n = omega arith in
+    let r : take (length rest - n) (drop n rest) ≡ drop n rest = take_rest rest n in
+    let g : length (take (length rest - n) (drop n rest)) + n ≡ length rest = omega (arith, ap length r, length-drop n rest) in
+    let p : m - length rest + n ≡ m - length (take (length rest - n) (drop n rest)) = omega (arith, g) in (
+      g,
+      passed (m - length rest) (pred n) rest (sym e ∙ sym k)
+          ∙ ap (λ i. bad_from (m - length rest + i) 0 (drop i rest)) k
+          ∙ ap (λ i. bad_from i 0 (drop n rest)) p
+          ∙ ap (bad_from (m - length (take (length rest - n) (drop n rest))) 0) (sym r),
+    )
 
-  pub turn_bad : n ≡ 0 → bad_from at 0 (drop at bs) ≡ Some at
-  turn_bad z = stopped at (drop at bs) (omega (arith, length-drop at bs)) (sym here ∙ z)
-
-  pub turn_good : (n ≡ 0 → ⊥) → bad_from at 0 (drop at bs) ≡ bad_from (at + n) 0 (drop (at + n) bs)
-  turn_good z =
-      let m : character (drop at bs) ≡ suc (pred n) = omega (arith, here) in
-      let k : suc (pred n) ≡ n = omega arith in
-      passed at (pred n) (drop at bs) m ∙ ap (λ i. bad_from (at + i) 0 (drop i (drop at bs))) k ∙ ap (bad_from (at + n) 0) (drop-drop n at bs)
+-- the end, where none is passed
+pub done : (m : ℕ) (rest : List ℕ) → character rest ≡ 0 → then_some (not (eqb (length rest) 0)) (m - length rest) ≡ bad_from (m - length rest) 0 rest
+done m [] e = refl
+done m (b ∷ bs) e =
+    ap (λ t. then_some (not t) (m - length (b ∷ bs))) (ne_eqb (length (b ∷ bs)) 0 (λ z. omega arith))
+    ∙ sym (stopped (m - length (b ∷ bs)) (b ∷ bs) (omega arith) e)
 
 -- the encodings of scalar values are passed
 pub texts_passed : (cs : List ℕ) (at : ℕ) (r : List ℕ) → scalars cs ≡ true → bad_from at 0 (encodes cs ++ r) ≡ bad_from (at + length (encodes cs)) 0 r

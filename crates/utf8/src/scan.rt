@@ -9,12 +9,11 @@ pub fn first_bad(bytes: &[u8]) -> Option<usize>
     ensures is { result ≡ first_bad_offset bytes.now }
     ensures within { IfSome result (λ i. i < length bytes.now) }
 {
-    // A step passes a character of one to four bytes, so no `for` counts the places.
-    let mut at = 0;
-    while let Some(n) = character(&bytes[at..]) {
-        at += n;
+    let mut rest = bytes;
+    while let Some(n) = character(rest) {
+        rest = &rest[n..];
     }
-    (at < bytes.len()).then_some(at)
+    (!rest.is_empty()).then_some(bytes.len() - rest.len())
 }
 
 // The bytes as text, or the place of the first bad sequence.

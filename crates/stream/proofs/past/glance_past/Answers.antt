@@ -13,17 +13,17 @@ returns-in_err-t g c =
     let p = err_from_is_err_and c.from_residual.result c.from_residual.ensures.1 in
     rw (p.1, p.2)
     (let h = c.in_err-t.ensures in
-    shown _ _ _ _ c.loop-t.below c.glance.new.self _ c.loop-t.invariant h.gives tt h)
+    shown _ _ _ _ c.loop-t.below c.glance.new.self _ c.loop-t.invariant tt h)
 
 pub returns : goal.returns
 returns g c =
     let h = subst (λ o. Glances g.S.TokenSource.meaning g.S.TokenSource.stays c.loop-t.below (Ok o) c.glance.new.self) c.in_default.is c.in_ok-t.ensures in
-    shown _ _ _ _ c.loop-t.below c.glance.new.self (Ok None) c.loop-t.invariant h.gives tt h
+    shown _ _ _ _ c.loop-t.below c.glance.new.self (Ok None) c.loop-t.invariant tt h
 
 pub returns-then-not-is_blank : goal.returns-then-not-is_blank
 returns-then-not-is_blank g c =
     let h = subst (λ o. Glances g.S.TokenSource.meaning g.S.TokenSource.stays c.loop-t.below (Ok o) c.glance.new.self) c.in-Some.is c.in_ok-t.ensures in
-    shown _ _ _ _ c.loop-t.below c.glance.new.self (Ok (Some c.in-Some.t)) c.loop-t.invariant h.gives (sym c.if-not-is_blank.ensures) h
+    shown _ _ _ _ c.loop-t.below c.glance.new.self (Ok (Some c.in-Some.t)) c.loop-t.invariant (sym c.if-not-is_blank.ensures) h
 
 pub loop-t-preserved : goal.loop-t-preserved
 loop-t-preserved g c =

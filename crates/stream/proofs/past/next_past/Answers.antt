@@ -14,4 +14,4 @@ loop-t-preserved g c =
 pub returns-then-not-is_blank : goal.returns-then-not-is_blank
 returns-then-not-is_blank g c =
     let h = subst (λ o. Nexts g.S.TokenSource.meaning g.S.TokenSource.moves c.loop-t.below (Ok o) c.next.new.self) c.in-Some.is c.in_ok-t.ensures in
-    past _ _ _ _ c.loop-t.below c.next.new.self (Ok (Some c.in-Some.t)) c.loop-t.invariant h.gives (sym c.if-not-is_blank.ensures) h
+    past _ _ _ _ c.loop-t.below c.next.new.self (Ok (Some c.in-Some.t)) c.loop-t.invariant (sym c.if-not-is_blank.ensures) h

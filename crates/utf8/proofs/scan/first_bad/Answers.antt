@@ -1,13 +1,20 @@
-use Rattle.std.proofs.Common.{◌+◌, ◌<◌, ◌≤◌, length, sym, ap, ◌∙◌, arith}
-use Rattle.std.proofs.lemmas.List.{length-drop, take_rest}
-use Rattle.utf8.proofs.Bad.{turn_good}
-use Rattle.utf8.proofs.Rows.{counted_some}
+use Rattle.std.proofs.Common.{◌-◌, not, length, sym, ap, ◌∙◌, arith}
+use Rattle.std.specs.Bool.{then_some}
+use Rattle.utf8.proofs.Bad.{done, turn}
+use Rattle.utf8.proofs.Rows.{counted_none, counted_some}
 use Rattle.utf8.proofs.scan.first_bad.Goals as goal
 
 pub loop-n-preserved : goal.loop-n-preserved
 loop-n-preserved c =
-    let bs = c.args.bytes.now in
-    let at = c.loop-n.at in
-    let n = c.in-Some.n in
-    let w : (0 < n) × (at + n ≤ length bs) = (c.in-Some.ensures.within.0, omega (arith, c.in-Some.ensures.within, ap length (take_rest bs at), length-drop at bs)) in
-    (w.1, sym (turn_good bs at n (omega (arith, w)) (counted_some _ _ c.in-Some.ensures.is) (λ z. omega (arith, w))) ∙ c.loop-n.invariant.1)
+    let w = c.in-Some.ensures.within in
+    let t = turn (length c.args.bytes.now) c.in-Some.n c.loop-n.rest.now c.loop-n.invariant.0 w.0 w.1 (counted_some _ _ c.in-Some.ensures.is) in
+    (omega (arith, t.0, c.loop-n.invariant.0), sym t.1 ∙ c.loop-n.invariant.1)
+
+pub returns-clause-is : goal.returns-clause-is
+returns-clause-is c =
+    let m = length c.args.bytes.now in
+    let rest = c.loop-n.rest.now in
+    c.then_some.ensures
+    ∙ ap (λ b. then_some (not b) (m - length rest)) c.is_empty.ensures
+    ∙ done m rest (counted_none _ c.in_default.ensures.is)
+    ∙ c.loop-n.invariant.1

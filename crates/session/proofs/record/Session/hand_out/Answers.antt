@@ -14,7 +14,7 @@ invariant_of-self c =
     let p = c.pass.new.cursor in
     record {
       shallow = shallow_behind s c.args.t c.requires p c.pass.ensures.of c.pass.ensures.at;
-      settled = settled_behind s c.args.t c.requires p c.pass.ensures.of c.pass.ensures.at _ c.saturating_sub-self.ensures;
+      settled = settled_behind s c.args.t c.requires p c.pass.ensures.of c.pass.ensures.at c.behind-self.result c.behind-self.ensures.length c.behind-self.ensures.outdents;
     }
 
 pub shift-requires : goal.shift-requires

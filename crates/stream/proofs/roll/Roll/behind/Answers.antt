@@ -3,18 +3,12 @@ use Rattle.stack.specs.Held.{held}
 use Rattle.stream.proofs.Rolling.{entry_first, none_first}
 use Rattle.stream.proofs.roll.Roll.behind.Goals as goal
 
-pub returns-then-self-lt-MAX_TOKENS : goal.returns-then-self-lt-MAX_TOKENS
-returns-then-self-lt-MAX_TOKENS c =
+pub returns-then-self-lt-MAX_TOKENS-clause-is : goal.returns-then-self-lt-MAX_TOKENS-clause-is
+returns-then-self-lt-MAX_TOKENS-clause-is c =
     let s = c.args.self.now in
-    record {
-      is = c.get.ensures ∙ entry_first (held s.tokens) s.cursor 98305 c.if-self-lt-MAX_TOKENS.true;
-      near = λ _. c.if-self-lt-MAX_TOKENS.true;
-    }
+    c.get.ensures ∙ entry_first (held s.tokens) s.cursor 98305 c.if-self-lt-MAX_TOKENS.true
 
-pub returns-else-self-lt-MAX_TOKENS : goal.returns-else-self-lt-MAX_TOKENS
-returns-else-self-lt-MAX_TOKENS c =
+pub returns-else-self-lt-MAX_TOKENS-clause-is : goal.returns-else-self-lt-MAX_TOKENS-clause-is
+returns-else-self-lt-MAX_TOKENS-clause-is c =
     let s = c.args.self.now in
-    record {
-      is = sym (none_first (held s.tokens) s.cursor 98305 c.if-self-lt-MAX_TOKENS.false);
-      near = λ h. cc;
-    }
+    sym (none_first (held s.tokens) s.cursor 98305 c.if-self-lt-MAX_TOKENS.false)

@@ -1,4 +1,4 @@
-use Rattle.std.proofs.Common.{◌≡◌, ℕ, List, [], ◌∷◌, ◌++◌, length, Ok, IsUtf8, Result, sym, ap, ◌∙◌, subst, arith}
+use Rattle.std.proofs.Common.{◌≡◌, ℕ, List, [], ◌∷◌, ◌++◌, length, IsUtf8, IfOk, ◌≤◌, Result, sym, ap, ◌∙◌, subst, arith}
 use Rattle.std.specs.Str.{chars}
 use Rattle.std.proofs.lemmas.Result.{err_from_is_err_and}
 use Rattle.std.proofs.lemmas.Str.{chars-nil}
@@ -6,7 +6,7 @@ use Rattle.unescape.specs.Escapes.{Fed, close}
 use Rattle.unescape.specs.declared.record.Escape.{Escape}
 use Rattle.unescape.specs.declared.record.State.{State}
 use Rattle.text.specs.Fedby.{from_ok, onto, sized}
-use Rattle.text.proofs.Cooks.{characters, closed_well, laid, not_ended, pieces_cooked}
+use Rattle.text.proofs.Cooks.{characters, answered, laid, pieces_cooked}
 use Rattle.text.proofs.Written.{Sofar, over_start, sofar_start, sofar_on, sofar_stop, sofar_end}
 use Rattle.text.proofs.literal.Literal.lay.Goals as goal
 
@@ -20,40 +20,35 @@ module _ {from at : ℕ} {s : State} {out start : List ℕ} {whole : Result Fed 
   done e = subst (λ cs. Sofar from at s cs out start whole) (ap (λ l. chars (laid l)) e ∙ chars-nil) so
 
 pub loop-piece-init : goal.loop-piece-init
-loop-piece-init c = (
-  omega (arith, ap length c.pieces-pieces.ensures.of, c.args.self.short),
-  pieces_cooked c.args.self.kind c.args.self.inner.now c.pieces-pieces.result _ _ c.processes_escape_sequences.ensures c.new-machine.ensures c.pieces-pieces.ensures.utf8 c.pieces-pieces.ensures.gives,
-  sofar_start 0 c.new-machine.result.state _ c.args.out.now,
-)
+loop-piece-init c =
+    let n = c.new-writer.ensures.end in (
+      omega (arith, n, ap length c.pieces-pieces.ensures.of, c.args.self.short),
+      pieces_cooked c.args.self.kind c.args.self.inner.now c.pieces-pieces.result _ _ c.processes_escape_sequences.ensures c.new-writer.ensures.state c.pieces-pieces.ensures.utf8 c.pieces-pieces.ensures.gives,
+      sofar_start 0 c.new-writer.result.end c.new-writer.result.machine.state _ c.args.out.now n,
+    )
 
-pub returns-in_err-end-clause-gives : goal.returns-in_err-end-clause-gives
-returns-in_err-end-clause-gives c =
+pub returns-in_err-write-clause-gives : goal.returns-in_err-write-clause-gives
+returns-in_err-write-clause-gives c =
     let p = err_from_is_err_and c.from_residual.result c.from_residual.ensures.1 in
     let so = ahead _ c.loop-piece.invariant.2 c.in-Some.piece.now _ c.in-Some.ensures.gives c.in-Some.ensures.utf8 in
-    rw (p.1, p.2) (ap (λ r. sized (close r)) (sym (sofar_stop (chars c.in-Some.piece.now) _ so _ c.in_err-end.ensures.gives)) ∙ ap sized c.loop-piece.invariant.1)
+    rw (p.1, p.2) (ap (λ r. sized (close r)) (sym (sofar_stop (chars c.in-Some.piece.now) _ so _ c.in_err-write.ensures.gives)) ∙ ap sized c.loop-piece.invariant.1)
 
 pub loop-piece-preserved : goal.loop-piece-preserved
 loop-piece-preserved c =
     let so = ahead _ c.loop-piece.invariant.2 c.in-Some.piece.now _ c.in-Some.ensures.gives c.in-Some.ensures.utf8 in (
-      omega (arith, c.in_ok-end.ensures.near, c.loop-piece.invariant.0, c.in-Some.ensures.near),
+      omega (arith, c.in_ok-write.ensures.near, c.loop-piece.invariant.0, c.in-Some.ensures.near),
       c.loop-piece.invariant.1,
-      sofar_on (chars c.in-Some.piece.now) _ so _ _ _ c.in_ok-end.ensures.gives c.in_ok-end.ensures.writes c.write.auto.out,
+      sofar_on (chars c.in-Some.piece.now) _ so _ _ _ c.in_ok-write.ensures.gives c.in_ok-write.ensures.writes c.write.auto.out,
     )
-
-pub returns-in_err-end-2-clause-gives : goal.returns-in_err-end-2-clause-gives
-returns-in_err-end-2-clause-gives c =
-    let p = err_from_is_err_and c.from_residual-in_err-end-2.result c.from_residual-in_err-end-2.ensures.1 in
-    let end = sofar_end (done _ c.loop-piece.invariant.2 c.in_default.ensures.gives.0) in
-    rw (p.1, p.2) (sym (ap sized (not_ended _ _ _ _ end.0 c.in_err-end-2.ensures)) ∙ ap sized c.loop-piece.invariant.1)
 
 pub returns-clause-gives : goal.returns-clause-gives
 returns-clause-gives c =
     let end = sofar_end (done _ c.loop-piece.invariant.2 c.in_default.ensures.gives.0) in
-    let well = closed_well _ _ _ end.0 c.in_ok-end-2.ensures in
-    sym (ap sized well.0 ∙ ap Ok well.1) ∙ ap sized c.loop-piece.invariant.1
+    let a = answered _ _ _ c.args.out.now c.loop-piece.out c.end.result end.0 (λ h. end.1 h ∙ over_start _ c.args.out.now) c.end.ensures in
+    a.0 ∙ ap sized c.loop-piece.invariant.1
 
 pub returns-clause-fills : goal.returns-clause-fills
 returns-clause-fills c =
     let end = sofar_end (done _ c.loop-piece.invariant.2 c.in_default.ensures.gives.0) in
-    let well = closed_well _ _ _ end.0 c.in_ok-end-2.ensures in
-    λ h. end.1 h ∙ over_start _ c.args.out.now ∙ ap (λ r. onto (from_ok r) c.args.out.now) (sym well.0 ∙ c.loop-piece.invariant.1)
+    let a = answered _ _ _ c.args.out.now c.loop-piece.out c.end.result end.0 (λ h. end.1 h ∙ over_start _ c.args.out.now) c.end.ensures in
+    subst (λ r. IfOk c.end.result (λ n. n ≤ length c.args.out.now → c.loop-piece.out ≡ onto (from_ok r) c.args.out.now)) c.loop-piece.invariant.1 a.1

@@ -9,7 +9,7 @@ use Rattle.unescape.specs.declared.record.Escape.{Escape}
 use Rattle.unescape.specs.declared.record.State.{State}
 use Rattle.text.specs.Fedby.{summed}
 use Rattle.text.proofs.Written.{Sofar, sofar_on, sofar_stop, sofar_end}
-use Rattle.text.proofs.feeding.write.Goals as goal
+use Rattle.text.proofs.feeding.Writer.write.Goals as goal
 
 module _ {from at : ℕ} {s : State} {out start : List ℕ} {whole : Result Fed Escape} (rest : List ℕ) (so : Sofar from at s (chars rest) out start whole) where
   -- the next character and those behind it
@@ -23,11 +23,11 @@ module _ {from at : ℕ} {s : State} {out start : List ℕ} {whole : Result Fed 
 shorter : (c : ℕ) (rest after : List ℕ) → rest ≡ encode c ++ after → length after + 1 ≤ length rest
 shorter c rest after e = omega (arith, ap length e, length-append (encode c) after, length-encode c, (len_utf8_bounds c).0)
 
-pub returns-in_err-end-clause-gives : goal.returns-in_err-end-clause-gives
-returns-in_err-end-clause-gives c =
+pub returns-in_err-place-clause-gives : goal.returns-in_err-place-clause-gives
+returns-in_err-place-clause-gives c =
     let p = err_from_is_err_and c.from_residual.result c.from_residual.ensures.1 in
     let so = ahead _ c.loop-c.invariant.4 c.in-Some.c _ c.loop-c.invariant.2 c.in-Some.ensures.steps.0 in
-    rw (p.1, p.2) (ap (summed c.args.at) (sofar_stop (c.in-Some.c ∷ []) _ so _ c.in_err-end.ensures.gives))
+    rw (p.1, p.2) (ap (summed c.args.self.now.end) (sofar_stop (c.in-Some.c ∷ []) _ so _ c.in_err-place.ensures.gives))
 
 pub loop-c-preserved : goal.loop-c-preserved
 loop-c-preserved c =
@@ -37,8 +37,8 @@ loop-c-preserved c =
       tt,
       tt,
       IsUtf8-past_char _ _ _ c.loop-c.invariant.2 e,
-      omega (arith, n, c.in_ok-end.ensures.near, c.loop-c.invariant.3),
-      sofar_on (c.in-Some.c ∷ []) _ so _ _ _ c.in_ok-end.ensures.gives c.in_ok-end.ensures.writes c.place.auto.out,
+      omega (arith, n, c.in_ok-place.ensures.near, c.loop-c.invariant.3),
+      sofar_on (c.in-Some.c ∷ []) _ so _ _ _ c.in_ok-place.ensures.gives c.in_ok-place.ensures.writes c.place.auto.out,
     )
 
 pub returns-clause-gives : goal.returns-clause-gives

@@ -1,15 +1,15 @@
 -- A literal may be cut at its delimiters.
-use Rattle.std.proofs.Common.{◌≡◌, ℕ, zero, suc, ◌+◌, ◌-◌, ◌*◌, ◌<◌, ◌≤◌, Bool, true, false, cond, eqb, leb, List, [], ◌∷◌, length, get_or, drop, Some, None, IsUtf8, sym, refl, ap, ◌∙◌, subst, arith}
+use Rattle.std.proofs.Common.{◌≡◌, ℕ, zero, suc, ◌+◌, ◌-◌, ◌*◌, ◌<◌, ◌≤◌, Bool, true, false, cond, eqb, leb, List, [], ◌∷◌, length, get_or, drop, IsUtf8, sym, refl, ap, ◌∙◌, subst, arith}
 use Rattle.std.specs.Str.{IsCharBoundary}
-use Rattle.std.proofs.lemmas.List.{get_or-drop, length-drop, length-take}
-use Rattle.std.proofs.lemmas.Bool.{and_parts, eqb-true, leb-true, false≢true, cond-true, cond-false}
+use Rattle.std.proofs.lemmas.List.{get_or-drop}
+use Rattle.std.proofs.lemmas.Bool.{and_parts, eqb-true, leb-true, false≢true}
 use Rattle.std.proofs.lemmas.Str.{IsCharBoundary-after_ascii, IsCharBoundary-before_ascii}
 use Rattle.scan.specs.Prefix.{begins}
 use Rattle.token.specs.Strings.{delimiter_of, quote_byte}
 use Rattle.token.specs.declared.kinds.StringDelimiter.{StringDelimiter}
 use Rattle.token.specs.declared.kinds.StringDelimiter.TheVariants.{Backtick, QuoteDouble, QuoteSingle}
 use Rattle.token.specs.declared.kinds.StringKind.{StringKind}
-use Rattle.text.specs.Quotes.{closed, closed_by, first_of, literal, quotes, stripped}
+use Rattle.text.specs.Quotes.{closed_by}
 
 begins_at : (ps bs : List ℕ) (i : ℕ) → begins ps bs ≡ true → i < length ps → get_or bs i 0 ≡ get_or ps i 0
 begins_at [] bs i h l = absurd (omega arith)
@@ -76,20 +76,3 @@ module _ (k : StringKind) (bs : List ℕ) (u : IsUtf8 bs) (o : begins (delimiter
       let e : get_or bs (length bs - n) 0 ≡ get_or (delimiter_of k) 0 0 =
       sym (ap (λ i. get_or bs i 0) z) ∙ sym (get_or-drop (length bs - n) bs 0 0) ∙ begins_at (delimiter_of k) (drop (length bs - n) bs) 0 parts.1 d.some in
       IsCharBoundary-before_ascii bs (length bs - n) (omega (arith, twice, d.some)) (subst (λ b. b < 128) (sym e) d.first)
-
--- what a literal is, by its quotes
-module _ (bs : List ℕ) where
-  pub no_quote : None ≡ first_of quotes bs → literal bs ≡ None
-  unfolding literal
-  no_quote e = sym (ap (closed bs) e)
-
-  pub quoted : (k : StringKind) → Some k ≡ first_of quotes bs → true ≡ closed_by (delimiter_of k) bs → literal bs ≡ Some (k, stripped (length (delimiter_of k)) bs)
-  unfolding literal
-  quoted k e c = sym (ap (closed bs) e) ∙ cond-true (closed_by (delimiter_of k) bs) _ _ (sym c)
-
-  pub not_closed : (k : StringKind) → Some k ≡ first_of quotes bs → false ≡ closed_by (delimiter_of k) bs → literal bs ≡ None
-  unfolding literal
-  not_closed k e c = sym (ap (closed bs) e) ∙ cond-false (closed_by (delimiter_of k) bs) _ _ (sym c)
-
-pub stripped_short : (n : ℕ) (bs : List ℕ) → length (stripped n bs) ≤ length bs
-stripped_short n bs = omega (arith, length-take (length bs - n - n) (drop n bs), length-drop n bs)

@@ -3,7 +3,7 @@ use Rattle.std.specs.Str.Iter.{chars_rest}
 use Rattle.std.specs.Str.{chars}
 use Rattle.unescape.specs.Escapes.{feed}
 use Rattle.text.proofs.Written.{Sofar}
-use Rattle.text.proofs.feeding.write.Given as goal
+use Rattle.text.proofs.feeding.Writer.write.Given as goal
 
 -- what is written and what is left give the whole
 abbrev pub invariant-loop-c : goal.invariant-loop-c
@@ -11,5 +11,5 @@ invariant-loop-c l =
     (goal.iterator-loop-c).can_next l.c-iterator
     × (goal.iterator-loop-c).is_finite l.c-iterator
     × IsUtf8 (chars_rest l.c-iterator)
-    × (l.end + 4 * length (chars_rest l.c-iterator) ≤ l.fn.at + 4 * length l.text)
-    × Sofar l.fn.at l.end l.machine.state (chars (chars_rest l.c-iterator)) l.out l.initial.out (feed l.initial.machine.state (chars l.text))
+    × (l.self.end + 4 * length (chars_rest l.c-iterator) ≤ l.initial.self.end + 4 * length l.text)
+    × Sofar l.initial.self.end l.self.end l.self.machine.state (chars (chars_rest l.c-iterator)) l.out l.initial.out (feed l.initial.self.machine.state (chars l.text))
