@@ -14,11 +14,11 @@ use Rattle.source.proofs.Walks.{walk_offset}
 use Rattle.lexer.specs.Answers.{after, answer}
 use Rattle.lexer.specs.Runs.{Meaning, onward, tokens_of}
 use Rattle.lexer.specs.States.{Rooms, State, ahead, opening}
-use Rattle.lexer.proofs.Came.{came}
+use Rattle.lexer.proofs.Came.{came, token_within}
 use Rattle.session.specs.Sessions.{state_of}
 use Rattle.session.specs.declared.record.Session.{Session}
 use Rattle.runs.specs.Coming.{meant}
-use Rattle.runs.proofs.Enough.{meant_goes, meant_leads, token_within, unfolded, whole_meant}
+use Rattle.runs.proofs.Enough.{meant_goes, meant_leads, unfolded, whole_meant}
 use Rattle.listing.specs.Lines.{ended, fault_text, laid_out, line_in, token_line}
 use Rattle.lister.specs.Growing.{Appends}
 use Rattle.lister.specs.declared.growing.Listing.{Listing}
