@@ -59,8 +59,3 @@ answered r s n out after (Ok m) g w h =
     let c = closed_well r s n g h.0 in
     (ap Ok (h.1 ∙ sym c.1) ∙ sym (ap sized c.0), λ l. w (omega (arith, h.1)) ∙ ap (λ t. onto (from_ok t) out) (sym c.0))
 answered r s n out after (Err x) g w h = (sym (ap sized (not_ended r s n x g h)), tt)
-
--- a length tells its text, and a refusal itself
-pub sized_err : (r : Result (List ℕ) Escape) (x : Escape) → Err x ≡ sized r → r ≡ Err x
-sized_err (Ok bs) x e = absurd (let z : ◌≡◌ {A = ℕ} 0 1 = cc in omega arith)
-sized_err (Err y) x e = let q : y ≡ x = cc in ap Err q

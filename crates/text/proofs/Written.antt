@@ -40,13 +40,6 @@ module _ (s t : State) (c : ℕ) (w : t ≡ after s (move s c)) (at : ℕ) where
           ((λ i. Ok (sym w i, at + length (b i))), b)
       by (Err x) e w = absurd (let z : ◌≡◌ {A = ℕ} 0 1 = cc in omega arith)
 
-  pub stepped_err : (x : Escape) → Err x ≡ given (move s c) → summed at (feed s (c ∷ [])) ≡ Err x
-  stepped_err x e = by (move s c) e
-    where
-      by : (m : Result Move Escape) → Err x ≡ given m → summed at (onward m (λ u. feed u [])) ≡ Err x
-      by (Ok m) e = absurd (let z : ◌≡◌ {A = ℕ} 0 1 = cc in omega arith)
-      by (Err y) e = let q : y ≡ x = cc in ap Err q
-
 -- what the characters before those to come gave is written from a place on, if it fits
 pub record Sofar (from at : ℕ) (s : State) (cs out start : List ℕ) (whole : Result Fed Escape) : Type 0 where
   pub written : List ℕ
