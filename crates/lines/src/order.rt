@@ -99,10 +99,7 @@ pub fn rule(fresh: bool, around: Around, levels: Levels, ahead: &[u8]) -> Found
 {
     let ahead = Ahead {
         bytes: ahead,
-        blank: Reach {
-            length: 0,
-            outdents: false,
-        },
+        blank: Reach::default(),
     };
     rule_from(fresh, around, levels, ahead)
 }

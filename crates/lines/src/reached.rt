@@ -1,7 +1,7 @@
 ghost use Rattle.std.specs.Prelude.{◌≡◌, ◌-◌};
 
 // What is known of the blank-line scan: at each of so many bytes it answers `outdents`, whether the white space from there on ends in a line feed that something follows.
-#[derive(Clone, Copy)]
+#[derive(Clone, Copy, Default)]
 pub struct Reach {
     pub length: usize,
     pub outdents: bool,

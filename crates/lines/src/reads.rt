@@ -21,7 +21,7 @@ fn part(text: &[u8], span: Span) -> &[u8]
     first(rest, span.length as usize)
 }
 
-// Whether two rows of bytes are equal.
+// Whether two rows of bytes are equal: the definition's word for the library's `==`.
 #[tactic(auto, using(crate::proofs::Runs::same_pointwise))]
 pub(crate) fn same(a: &[u8], b: &[u8]) -> bool
     ensures { result ≡ same_of a.now b.now }

@@ -42,6 +42,7 @@ impl Listing<'_, '_> {
             Stack::new(&mut levels),
             Stack::new(&mut openers),
         );
+        // A match in a loop, since each of the three answers has its own way on.
         loop {
             match session.next() {
                 Ok(Some(token)) => self.append(Ok(token))?,

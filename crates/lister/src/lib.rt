@@ -13,7 +13,7 @@ use listing::MAX_LINE;
 use source::Source;
 use std::alloc::{AllocError, Global};
 
-// Appends the line of each token of a text, or of the fault that ends them, and answers whether there was none.
+// Appends the line of each token of a text, or of the fault that ends them, and answers whether there was none; what the fault is stands in its line.
 pub fn list(heap: Global, bytes: &[u8], out: &mut Vec<u8>) -> Result<bool, AllocError>
     ensures tells { IfOk result (λ whole. whole ≡ sound bytes.now) }
     ensures appends { OnOk result (out.new.items ≡ out.old.items ++ listing bytes.now) }

@@ -1,7 +1,7 @@
 -- The lines of a listing, as bytes.
 use Rattle.std.specs.Prelude.{ℕ, cond, List, [], ◌∷◌, ◌++◌, length, drop, codes, decimal, Ok, Err, Result, ◌==◌, nat_le}
 use Rattle.std.specs.List.{flat_map}
-use Rattle.token.specs.Told.{Told, Refusal, gave, refused, refusal, refused_over}
+use Rattle.token.specs.Told.{Told, Refusal, fault_shown, gave, refused, refusal, refused_over}
 use Rattle.token.specs.declared.fault.Fault.{Fault}
 use Rattle.token.specs.declared.fault.Layer.TheVariants as layer
 use Rattle.token.specs.declared.place.Position.{Position}
@@ -37,14 +37,9 @@ barred t bs = heading t ++ (124 ∷ (printed bs ++ (124 ∷ [])))
 abbrev pub token_line : List ℕ → Token → List ℕ
 token_line text t = barred t (lexeme text t)
 
--- fault N line:column offset length, and a line feed
-abbrev pub fault_line_of : (number line column offset length : ℕ) → List ℕ
-fault_line_of number line column offset length =
-    codes "fault " ++ (decimal number ++ (codes " " ++ (decimal line ++ (codes ":" ++ (decimal column
-    ++ (codes " " ++ (decimal offset ++ (codes " " ++ (decimal length ++ codes "\n")))))))))
-
+-- a fault as it is printed, and a line feed
 abbrev pub line_of_fault : Refusal → List ℕ
-line_of_fault r = fault_line_of r.number r.line r.column r.offset r.length
+line_of_fault r = fault_shown r ++ codes "\n"
 
 -- fault N line:column offset length
 abbrev pub fault_text : Refusal → List ℕ

@@ -18,13 +18,5 @@ use token::Fault;
 pub fn fault_line(heap: Global, fault: Fault) -> Result<String, AllocError>
     ensures { IfOk result (λ s. string_bytes s ≡ line_of_fault (refusal fault)) }
 {
-    let p = fault.position;
-    format!(in heap;
-        "fault {} {}:{} {} {}\n",
-        fault.cause.number(),
-        p.line,
-        p.column,
-        p.offset,
-        fault.length,
-    )
+    format!(in heap; "{fault}\n")
 }

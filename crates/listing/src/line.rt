@@ -8,7 +8,7 @@ ghost use Rattle.listing.specs.Writers.{Writes};
 use crate::names::name;
 use crate::writer::Writer;
 use source::Source;
-use token::{Cause, Fault, Layer, Token};
+use token::{Fault, Token};
 
 // The longest line: 65 bytes before the first bar, two bars, a line feed, and two bytes for each of a lexeme.
 pub const MAX_LINE: usize = 131_140;
@@ -32,7 +32,7 @@ pub fn write_line(
     Ok(n)
 }
 
-// What a line tells: a token and its lexeme, or a fault, which has none.
+// What a line tells: a token and its lexeme, or a fault, whose lexeme is empty, as the definition of a line has it.
 #[derive(Clone, Copy)]
 struct Line<'a> {
     entry: Result<Token, Fault>,
@@ -75,10 +75,7 @@ impl<'a> Line<'a> {
             Ok(token) => (token.position, token.length),
             Err(fault) => (fault.position, fault.length),
         };
-        Fault {
-            needed,
-            ..Fault::new(Cause::BufferTooShort, Layer::Text, position, length)
-        }
+        Fault::too_short(position, length, needed)
     }
 }
 

@@ -3,7 +3,7 @@ ghost use Rattle.listing.specs.Names.{name_of};
 
 use token::TokenKind;
 
-// The name of a kind. A text and no Display: what formats may refuse, and a line is laid without refusing.
+// The name of a kind. A text and no Display: what formats may refuse, and a line is laid without refusing. A derived Debug says nothing of its bytes.
 pub(crate) fn name(kind: TokenKind) -> &'static str
     ensures is { result.now ≡ name_of kind }
     ensures short { length result.now ≤ 20 }

@@ -39,5 +39,5 @@ pub enum Miss {
     Unclosed,
 }
 
-// What a rule finds: a token here, of a kind and a length, or why there is none.
+// What a rule finds: a token here, of a kind and a length, or why there is none. A pair, since most arms of the table are a kind and a numeral.
 pub type Found = Result<(TokenKind, usize), Miss>;

@@ -29,7 +29,7 @@ pub enum Start {
     Wrong(Layout, usize),
 }
 
-// The rules of the general table, of which a character picks one.
+// The rules of the general table, of which a character picks one. Each has its own definition and its own case in the law, so those for `!`, `+`, `=` and `:` stand apart.
 #[derive(Clone, Copy)]
 pub enum Rule {
     Blank,

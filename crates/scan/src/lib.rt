@@ -64,7 +64,7 @@ pub fn common(a: &[u8], b: &[u8]) -> usize
     alike(a, b)
 }
 
-// How many pairs of bytes are alike, from the front on.
+// How many pairs of bytes are alike, from the front on: by itself, since the check follows a chain to a clause that mirrors it and no further.
 fn alike(a: &[u8], b: &[u8]) -> usize
     ensures is { result ≡ leading_of (λ p. nat_eq p.0 p.1) (zip a.now b.now) }
     ensures within { (result ≤ length a.now) × (result ≤ length b.now) }
@@ -72,7 +72,7 @@ fn alike(a: &[u8], b: &[u8]) -> usize
     a.iter().zip(b).take_while(|(x, y)| x == y).count()
 }
 
-// Whether bytes begin with others.
+// Whether bytes begin with others: the definition's word for the library's `starts_with`.
 #[tactic(auto, using(crate::proofs::Prefixes::begins_pointwise))]
 pub fn starts(bytes: &[u8], prefix: &[u8]) -> bool
     ensures { result ≡ begins prefix.now bytes.now }

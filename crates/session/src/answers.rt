@@ -50,7 +50,7 @@ impl<'a, 't> Session<'a, 't> {
         }
     }
 
-    // The table that a token needs and that is full. The definitions go over the effects as data, and so does this.
+    // The table that a token needs and that is full, if one is: an option, since it is a refusal only over a token. The definitions go over the effects as data, and so does this.
     fn lacks(&self, effect: Effect) -> Option<Cause>
         ensures { result ≡ lacks_of (state_of self.now) effect }
     {

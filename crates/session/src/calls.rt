@@ -31,10 +31,7 @@ impl<'a, 't> Session<'a, 't> {
             colon: false,
             formats: false,
             ended: false,
-            blank: Reach {
-                length: 0,
-                outdents: false,
-            },
+            blank: Reach::default(),
         }
     }
 

@@ -42,7 +42,7 @@ impl<'a> Cursor<'a> {
         &self.source.text.as_bytes()[self.position.offset as usize..]
     }
 
-    // Passes one character, and says whether there was one. Everything that moves a place goes through this step.
+    // Passes one character, and says whether there was one, which is all there is to say: the place is the cursor's. Everything that moves a place goes through this step.
     pub fn advance(&mut self) -> bool
         ensures answer { result ≡ not (none (ahead self.old)) }
         ensures moves { self.new.position ≡ walk (character (ahead self.old)) (ahead self.old) self.old.position }

@@ -100,7 +100,7 @@ fn twice(c: u8, kind: TokenKind, ahead: &[u8]) -> Found
     lex_choices(c, &[(c, kind)], missing(&ahead[1..]), ahead)
 }
 
-// Whether delimiters are of one shape, so that they close one another.
+// Whether delimiters are of one shape, so that they close one another. Their variants cannot be compared without what they hold.
 fn alike(one: Delimiter, other: Delimiter) -> bool
     ensures { result ≡ (shape_of one == shape_of other) }
 {
@@ -155,10 +155,8 @@ fn separator(around: Around) -> TokenKind
 fn end_of_line(around: Around, ahead: &[u8]) -> Found
     ensures { result ≡ found_line_end around ahead.now }
 {
-    match line_end(ahead) {
-        Some(n) => Ok((separator(around), n)),
-        None => Err(Miss::Fails(Layout::UnpairedCarriageReturn, 0, 1)),
-    }
+    let n = line_end(ahead).ok_or(Miss::Fails(Layout::UnpairedCarriageReturn, 0, 1))?;
+    Ok((separator(around), n))
 }
 
 // A backslash that no line end follows.

@@ -26,6 +26,7 @@ fn kind_of(delimiter: StringDelimiter, ahead: &[u8]) -> StringKind
     }
 }
 
+// What a delimiter makes of a string, and of one that does not end: two tables, whose values are of two types.
 fn string_token(delimiter: StringDelimiter) -> TokenKind
     ensures { result ≡ found_string delimiter }
 {

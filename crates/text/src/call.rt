@@ -29,10 +29,8 @@ fn lay(literal: Literal, token: Token, buffer: &mut [u8]) -> Result<usize, Fault
     let refused = |escape| Fault::over(Cause::from(escape), Layer::Text, token);
     let n = literal.lay(&mut []).map_err(refused)?;
     if n > buffer.len() {
-        return Err(Fault {
-            needed: n as u32,
-            ..Fault::over(Cause::BufferTooShort, Layer::Text, token)
-        });
+        return Err(Fault::too_short(token.position, token.length, n as u32));
     }
+    // The same literal is refused by neither pass or by both.
     literal.lay(buffer).map_err(refused)
 }

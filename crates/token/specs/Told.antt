@@ -1,5 +1,5 @@
 -- What an answer tells its caller: a value, or the number of a refusal, its layer, and the part of the text that it stands over.
-use Rattle.std.specs.Prelude.{ℕ, Ok, Err, Result}
+use Rattle.std.specs.Prelude.{ℕ, List, ◌++◌, codes, decimal, Ok, Err, Result}
 use Rattle.token.specs.Causes.{number_of}
 use Rattle.token.specs.declared.fault.Fault.{Fault}
 use Rattle.token.specs.declared.fault.Layer.{Layer}
@@ -54,3 +54,9 @@ refused_over n l t = refused record {
 -- where every text begins
 abbrev pub origin : Position
 origin = record { offset = 0; line = 0; column = 0 }
+
+-- as a refusal is printed: fault N line:column offset length
+abbrev pub fault_shown : Refusal → List ℕ
+fault_shown r =
+    codes "fault " ++ (decimal r.number ++ (codes " " ++ (decimal r.line ++ (codes ":" ++ (decimal r.column
+    ++ (codes " " ++ (decimal r.offset ++ (codes " " ++ decimal r.length))))))))

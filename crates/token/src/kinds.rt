@@ -48,7 +48,7 @@ pub enum TokenKind {
 }
 
 // What quotes a string.
-#[derive(Clone, Copy, PartialEq, Eq)]
+#[derive(Clone, Copy, PartialEq, Eq, Debug)]
 pub enum StringDelimiter {
     Backtick,
     QuoteDouble,
@@ -56,7 +56,7 @@ pub enum StringDelimiter {
 }
 
 // How a string is quoted: by which character, and by three of them (`indented`) or by one.
-#[derive(Clone, Copy, PartialEq, Eq)]
+#[derive(Clone, Copy, PartialEq, Eq, Debug)]
 pub struct StringKind {
     pub delimiter: StringDelimiter,
     pub indented: bool,
@@ -86,7 +86,7 @@ impl StringKind {
 }
 
 // What is open until its closing counterpart comes.
-#[derive(Clone, Copy, PartialEq, Eq)]
+#[derive(Clone, Copy, PartialEq, Eq, Debug)]
 pub enum Delimiter {
     Brace,
     Bracket,

@@ -83,9 +83,7 @@ impl Unescape {
         ensures gives { result ≡ given (widened value digits c) }
         ensures moves { self.new.state ≡ after self.old.state (widened value digits c) }
     {
-        let Some(digit) = c.to_digit(16) else {
-            return Err(Escape::UnicodeEscapeCharacter);
-        };
+        let digit = c.to_digit(16).ok_or(Escape::UnicodeEscapeCharacter)?;
         if digits >= 6 {
             return Err(Escape::UnicodeEscapeLength);
         }

@@ -9,7 +9,7 @@ pub fn character(bytes: &[u8]) -> Option<usize>
     row(bytes)
 }
 
-// The length of the first row of the grammar that the bytes begin with.
+// The length of the first row of the grammar that the bytes begin with: by itself, since what `character` means is not unfolded where it is promised.
 fn row(bytes: &[u8]) -> Option<usize>
     ensures { result ≡ counted (among rows bytes.now) }
 {

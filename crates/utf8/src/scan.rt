@@ -16,7 +16,7 @@ pub fn first_bad(bytes: &[u8]) -> Option<usize>
     (!rest.is_empty()).then_some(bytes.len() - rest.len())
 }
 
-// The bytes as text, or the place of the first bad sequence.
+// The bytes as text, or the place of the first bad sequence. The rows of the grammar have tested them, and not the library's `from_utf8`, so that code and definition stand row by row beside one another.
 pub fn text(bytes: &[u8]) -> Result<&str, usize>
     ensures { MatchResult result (λ s. (s.now ≡ bytes.now) × (first_bad_offset bytes.now ≡ None)) (λ i. (first_bad_offset bytes.now ≡ Some i) × (i < length bytes.now)) }
 {
