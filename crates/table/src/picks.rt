@@ -10,7 +10,7 @@ use crate::strings::{continuation, quotation};
 use crate::walk::{OverComment, line_end, width};
 use rules::{Around, Found, Layout, Miss, Rule};
 use scan::{ByteClass, Gap, leading, starts};
-use token::{Delimiter, StringDelimiter, StringKind, TokenKind};
+use token::{Delimiter, StringDelimiter, TokenKind};
 use utf8::character_length;
 
 // What an identifier goes on with.
