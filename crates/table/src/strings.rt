@@ -26,6 +26,7 @@ fn kind_of(delimiter: StringDelimiter, ahead: &[u8]) -> StringKind
     }
 }
 
+// The kind of a string's token, by what quotes it; `unterminated` is a match of its own, since its answers are of another type.
 fn string_token(delimiter: StringDelimiter) -> TokenKind
     ensures { result ≡ found_string delimiter }
 {
