@@ -5,7 +5,6 @@
 use listing::fault_line;
 use std::alloc::{AllocError, Global};
 use unquoted::unquoted;
-use words::append;
 
 fn main(rt: HostRuntime) -> anyhow::Result<()> {
     let heap = rt.alloc();
@@ -18,10 +17,7 @@ fn main(rt: HostRuntime) -> anyhow::Result<()> {
 
 // The line for one literal.
 fn answer(heap: Global, line: &str) -> anyhow::Result<String> {
-    let mut literal = Vec::new(heap);
-    for word in line.split_whitespace() {
-        append(&mut literal, word)?;
-    }
+    let literal = words::line(heap, line)?;
     let mut buffer = vec![in heap; 0u8; literal.len()]?;
     match unquoted(literal.as_slice(), buffer.as_mut_slice()) {
         Ok(n) => {
