@@ -30,10 +30,6 @@ fn answer(heap: Global, line: &str) -> anyhow::Result<String> {
 
 // The place of a text, its length and its bytes.
 fn text_line(heap: Global, text: &[u8]) -> Result<String, AllocError> {
-    let mut out = format!(in heap; "0:0 {} ", text.len())?;
-    for b in text {
-        out.push_str(format!(in heap; "{b:02x}")?.as_str())?;
-    }
-    out.push_str("\n")?;
-    Ok(out)
+    let bytes = hex::encode(heap, text)?;
+    format!(in heap; "0:0 {} {bytes}\n", text.len())
 }
