@@ -4,16 +4,12 @@
 #![tactic(auto)]
 
 use survey::{report_line, survey};
-use words::append;
 
 fn main(rt: HostRuntime) -> anyhow::Result<()> {
     let heap = rt.alloc();
     for line in rt.lines(heap) {
         let line = line?;
-        let mut bytes = Vec::new(heap);
-        for word in line.split_whitespace() {
-            append(&mut bytes, word)?;
-        }
+        let bytes = words::line(heap, line.as_str())?;
         rt.print(report_line(heap, survey(bytes.as_slice()))?)?;
     }
     Ok(())

@@ -4,6 +4,7 @@ ghost use Rattle.std.specs.Prelude.{◌≡◌, ◌^◌, ◌<◌, length, decimal
 ghost use Rattle.listing.specs.Laying.{laid};
 ghost use Rattle.listing.specs.Lines.{field as field_of, printed, shown as shown_as};
 
+use itoa::Buffer;
 use std::slice;
 
 // Lays bytes over a buffer as far as there is room, and keeps the place behind them. Past the end it only counts.
@@ -41,14 +42,11 @@ impl<'a> Writer<'a> {
         self.place = self.place.saturating_add(bytes.len());
     }
 
-    // A number in decimal. Digit by digit: `write!` and `InlineText` leave open whether they wrote all of it, and a String needs a heap.
+    // A number in decimal.
     fn number(&mut self, n: u32)
         ensures { Writes (decimal n) self.old self.new }
     {
-        if n >= 10 {
-            self.number(n / 10);
-        }
-        self.put(&[b'0' + (n % 10) as u8]);
+        self.put(Buffer::new().format(n).as_bytes());
     }
 
     // A number in decimal, and a byte behind it.

@@ -5,7 +5,6 @@
 use listing::fault_line;
 use std::alloc::{AllocError, Global};
 use unquoted::unquoted;
-use words::append;
 
 fn main(rt: HostRuntime) -> anyhow::Result<()> {
     let heap = rt.alloc();
@@ -18,10 +17,7 @@ fn main(rt: HostRuntime) -> anyhow::Result<()> {
 
 // The line for one literal.
 fn answer(heap: Global, line: &str) -> anyhow::Result<String> {
-    let mut literal = Vec::new(heap);
-    for word in line.split_whitespace() {
-        append(&mut literal, word)?;
-    }
+    let literal = words::line(heap, line)?;
     let mut buffer = vec![in heap; 0u8; literal.len()]?;
     match unquoted(literal.as_slice(), buffer.as_mut_slice()) {
         Ok(n) => {
@@ -34,10 +30,6 @@ fn answer(heap: Global, line: &str) -> anyhow::Result<String> {
 
 // The place of a text, its length and its bytes.
 fn text_line(heap: Global, text: &[u8]) -> Result<String, AllocError> {
-    let mut out = format!(in heap; "0:0 {} ", text.len())?;
-    for b in text {
-        out.push_str(format!(in heap; "{b:02x}")?.as_str())?;
-    }
-    out.push_str("\n")?;
-    Ok(out)
+    let bytes = hex::encode(heap, text)?;
+    format!(in heap; "0:0 {} {bytes}\n", text.len())
 }

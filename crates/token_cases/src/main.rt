@@ -5,16 +5,12 @@
 
 use lister::list;
 use std::io::{BufRead, BufReader, Write};
-use words::append;
 
 fn main(rt: HostRuntime) -> anyhow::Result<()> {
     let heap = rt.alloc();
     for line in BufReader::new(heap, rt.stdin())?.lines(heap) {
         let line = line?;
-        let mut text = Vec::new(heap);
-        for word in line.split_whitespace() {
-            append(&mut text, word)?;
-        }
+        let text = words::line(heap, line.as_str())?;
         let mut listing = Vec::new(heap);
         list(heap, text.as_slice(), &mut listing)?;
         listing.extend_from_slice(b"--\n")?;

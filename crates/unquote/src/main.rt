@@ -11,11 +11,9 @@ fn main(rt: HostRuntime) -> anyhow::Result<()> {
     let heap = rt.alloc();
     let mut input = Vec::new(heap);
     rt.stdin().read_to_end(&mut input)?;
-    if input.last() == Some(&b'\n') {
-        let _ = input.pop();
-    }
-    let mut buffer = vec![in heap; 0u8; input.len()]?;
-    match unquoted(input.as_slice(), buffer.as_mut_slice()) {
+    let literal = input.strip_suffix(b"\n").unwrap_or(input.as_slice());
+    let mut buffer = vec![in heap; 0u8; literal.len()]?;
+    match unquoted(literal, buffer.as_mut_slice()) {
         Ok(n) => {
             buffer.truncate(n);
             rt.stdout().write_all(buffer.as_slice())?;

@@ -2,27 +2,17 @@ ghost use Rattle.std.specs.Prelude.{◌≡◌};
 ghost use Rattle.words.specs.declared.error.WordError.TheVariants.{Number, OutOfMemory};
 
 use std::alloc::AllocError;
-use std::error::Error;
-use std::fmt;
 use std::num::ParseIntError;
+use thiserror::Error;
 
 // Why a word is refused: a part of it is no number, or too great, or memory ran out.
-#[derive(Debug, Drop)]
+#[derive(Debug, Drop, Error)]
 pub enum WordError {
+    #[error(transparent)]
     Number(ParseIntError),
+    #[error("out of memory")]
     OutOfMemory,
 }
-
-impl fmt::Display for WordError {
-    fn fmt<W: fmt::Write>(&self, f: &mut fmt::Formatter<W>) -> fmt::Result {
-        match self {
-            WordError::Number(error) => write!(f, "{error}"),
-            WordError::OutOfMemory => write!(f, "out of memory"),
-        }
-    }
-}
-
-impl Error for WordError {}
 
 impl From<ParseIntError> for WordError {
     ghost from_gives = { λ error e. e ≡ Number error };

@@ -4,11 +4,25 @@
 
 mod error;
 
-ghost use Rattle.std.specs.Prelude.{◌≡◌, ◌++◌, MatchResult, OnErr, OnOk};
+ghost use Rattle.std.specs.Prelude.{◌≡◌, ◌++◌, IfErr, IfOk, MatchResult, OnErr, OnOk};
+ghost use Rattle.words.specs.Lines.{RefusesLine, StandsFor};
 ghost use Rattle.words.specs.Words.{IsWord, byte_part, bytes_of, count_part};
 ghost use Rattle.words.specs.Refusals.{Refuses};
 
 pub use error::WordError;
+use std::alloc::Global;
+
+// The bytes that a line of words stands for.
+pub fn line(heap: Global, text: &str) -> Result<Vec<u8>, WordError>
+    ensures ok { IfOk result (λ bytes. StandsFor text.now bytes.items) }
+    ensures err { IfErr result (λ e. RefusesLine e text.now) }
+{
+    let mut bytes = Vec::new(heap);
+    for word in text.split_whitespace() {
+        append(&mut bytes, word)?;
+    }
+    Ok(bytes)
+}
 
 // Appends the bytes that a word stands for. Where it refuses, the bytes are as they were.
 pub fn append(bytes: &mut Vec<u8>, word: &str) -> Result<(), WordError>
