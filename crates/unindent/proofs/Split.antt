@@ -12,7 +12,7 @@ use Rattle.unindent.specs.Cuts.{first_line_length}
 use Rattle.unindent.specs.Lines.{lines, grows}
 
 -- the line feed that ends the first line, or the end of the text
-pub first_length : (bs : List ℕ) → min (length bs) (prefix_len in_line bs + 1) ≡ first_line_length bs
+first_length : (bs : List ℕ) → min (length bs) (prefix_len in_line bs + 1) ≡ first_line_length bs
 first_length [] = refl
 first_length (b ∷ bs) = by (eqb b 10) (first_length bs)
   where

@@ -5,16 +5,18 @@ ghost use Rattle.scan.specs.Classes.{gap};
 ghost use Rattle.unindent.specs.Lines.{blank as is_blank, indent as indent_of, ends_with_crlf, meet as meet_of, shares, indentation as indentation_of, lines as lines_of, or_none};
 ghost use Rattle.unindent.specs.Cuts.{first_line_length};
 
-use scan::{Gap, InLine, White, common, leading};
+use scan::{Gap, White, common, leading};
 
 // How long the first line is, with its line feed.
-#[tactic(auto, using(crate::proofs::Split::first_length))]
 pub(crate) fn line_length(bytes: &[u8]) -> usize
     ensures is { result ≡ first_line_length bytes.now }
     ensures within { result ≤ length bytes.now }
     ensures some { 0 < length bytes.now → 0 < result }
 {
-    bytes.len().min(leading::<InLine>(bytes) + 1)
+    match bytes.split_inclusive(|b| *b == b'\n').next() {
+        Some(line) => line.len(),
+        None => 0,
+    }
 }
 
 // Whether a line holds nothing but white space.

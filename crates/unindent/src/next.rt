@@ -1,6 +1,7 @@
-ghost use Rattle.std.specs.Prelude.{◌≡◌, ◌+◌, ◌<◌, ◌≤◌, Bool, true, false, [], ◌∷◌, length, take, drop, IfSome, IsUtf8, MatchOption, OnSome};
+ghost use Rattle.std.specs.Prelude.{◌≡◌, ◌+◌, ◌<◌, ◌≤◌, true, length, take, drop};
+ghost use Rattle.std.specs.Iterator.{item_count};
 ghost use Rattle.unindent.specs.Cuts.{first_line_length};
-ghost use Rattle.unindent.specs.Left.{left, whole as whole_of};
+ghost use Rattle.unindent.specs.Left.{GivesPiece, left, whole as whole_of};
 ghost use Rattle.unindent.specs.Lines.{indentation as indentation_of, lines as lines_of, piece as piece_of, pieces, roomy};
 
 use crate::lines::{blank, ends_crlf, indentation, line_length};
@@ -60,14 +61,17 @@ impl<'a> Pieces<'a> {
             indent: None,
         }
     }
+}
 
-    // The next piece.
-    pub fn next(&mut self) -> Option<&'a str>
-        ensures gives { MatchOption result ((left self.old ≡ []) × (left self.new ≡ [])) (λ s. left self.old ≡ s.now ∷ left self.new) }
-        ensures shorter { OnSome result (length self.new.rest.now < length self.old.rest.now) }
-        ensures utf8 { IfSome result (λ s. IsUtf8 s.now) }
-        ensures near { IfSome result (λ s. length s.now + length self.new.rest.now ≤ length self.old.rest.now) }
-    {
+// One piece after the other, to the end of the text.
+impl<'a> Iterator for Pieces<'a> {
+    type Item = &'a str;
+
+    ghost next_gives = { GivesPiece };
+
+    ghost remaining = { item_count left };
+
+    fn next(&mut self) -> Option<&'a str> {
         let rest = self.rest;
         if rest.is_empty() {
             return None;

@@ -21,34 +21,35 @@ module _ {from at : ℕ} {s : State} {out start : List ℕ} {whole : Result Fed 
 
 pub loop-piece-init : goal.loop-piece-init
 loop-piece-init c =
-    let n = c.new-writer.ensures.end in (
-      omega (arith, n, ap length c.pieces-pieces.ensures.of, c.args.self.short),
-      pieces_cooked c.args.self.kind c.args.self.inner.now c.pieces-pieces.result _ _ c.processes_escape_sequences.ensures c.new-writer.ensures.state c.pieces-pieces.ensures.utf8 c.pieces-pieces.ensures.gives,
+    let n = c.new-writer.ensures.end in
+    let e = c.into_iter-piece-iterator.ensures.into_iter_gives in (
+      omega (arith, n, ap (λ p. length p.rest.now) e, ap length c.pieces-piece-items.ensures.of, c.args.self.short),
+      rw e (pieces_cooked c.args.self.kind c.args.self.inner.now c.pieces-piece-items.result _ _ c.processes_escape_sequences.ensures c.new-writer.ensures.state c.pieces-piece-items.ensures.utf8 c.pieces-piece-items.ensures.gives),
       sofar_start 0 c.new-writer.result.end c.new-writer.result.machine.state _ c.args.out.now n,
     )
 
 pub returns-in_err-write-clause-gives : goal.returns-in_err-write-clause-gives
 returns-in_err-write-clause-gives c =
     let p = err_from_is_err_and c.from_residual.result c.from_residual.ensures.1 in
-    let so = ahead _ c.loop-piece.invariant.2 c.in-Some.piece.now _ c.in-Some.ensures.gives c.in-Some.ensures.utf8 in
+    let so = ahead _ c.loop-piece.invariant.2 c.in-Some.piece.now _ c.in-Some.ensures.steps.gives c.in-Some.ensures.steps.utf8 in
     rw (p.1, p.2) (ap (λ r. sized (close r)) (sym (sofar_stop (chars c.in-Some.piece.now) _ so _ c.in_err-write.ensures.gives)) ∙ ap sized c.loop-piece.invariant.1)
 
 pub loop-piece-preserved : goal.loop-piece-preserved
 loop-piece-preserved c =
-    let so = ahead _ c.loop-piece.invariant.2 c.in-Some.piece.now _ c.in-Some.ensures.gives c.in-Some.ensures.utf8 in (
-      omega (arith, c.in_ok-write.ensures.near, c.loop-piece.invariant.0, c.in-Some.ensures.near),
+    let so = ahead _ c.loop-piece.invariant.2 c.in-Some.piece.now _ c.in-Some.ensures.steps.gives c.in-Some.ensures.steps.utf8 in (
+      omega (arith, c.in_ok-write.ensures.near, c.loop-piece.invariant.0, c.in-Some.ensures.steps.near),
       c.loop-piece.invariant.1,
       sofar_on (chars c.in-Some.piece.now) _ so _ _ _ c.in_ok-write.ensures.gives c.in_ok-write.ensures.writes c.write.auto.out,
     )
 
 pub returns-clause-gives : goal.returns-clause-gives
 returns-clause-gives c =
-    let end = sofar_end (done _ c.loop-piece.invariant.2 c.in_default.ensures.gives.0) in
+    let end = sofar_end (done _ c.loop-piece.invariant.2 c.in-None.ensures.steps.gives.0) in
     let a = answered _ _ _ c.args.out.now c.loop-piece.out c.end.result end.0 (λ h. end.1 h ∙ over_start _ c.args.out.now) c.end.ensures in
     a.0 ∙ ap sized c.loop-piece.invariant.1
 
 pub returns-clause-fills : goal.returns-clause-fills
 returns-clause-fills c =
-    let end = sofar_end (done _ c.loop-piece.invariant.2 c.in_default.ensures.gives.0) in
+    let end = sofar_end (done _ c.loop-piece.invariant.2 c.in-None.ensures.steps.gives.0) in
     let a = answered _ _ _ c.args.out.now c.loop-piece.out c.end.result end.0 (λ h. end.1 h ∙ over_start _ c.args.out.now) c.end.ensures in
     subst (λ r. IfOk c.end.result (λ n. n ≤ length c.args.out.now → c.loop-piece.out ≡ onto (from_ok r) c.args.out.now)) c.loop-piece.invariant.1 a.1

@@ -10,9 +10,6 @@ use Rattle.text.proofs.literal.Literal.lay.Given as goal
 -- what is written and what is left give the whole, which is the literal's text
 abbrev pub invariant-loop-piece : goal.invariant-loop-piece
 invariant-loop-piece l =
-    (l.writer.end + 4 * length l.pieces.rest.now ≤ 4 * 65536)
-    × (close (feed l.initial.writer.machine.state (chars (laid (left l.initial.pieces)))) ≡ cooked l.self.kind l.self.inner.now)
-    × Sofar 0 l.writer.end l.writer.machine.state (chars (laid (left l.pieces))) l.out l.initial.out (feed l.initial.writer.machine.state (chars (laid (left l.initial.pieces))))
-
-abbrev pub decreases-loop-piece : goal.decreases-loop-piece
-decreases-loop-piece l = length l.pieces.rest.now
+    (l.writer.end + 4 * length l.piece-iterator.rest.now ≤ 4 * 65536)
+    × (close (feed l.initial.writer.machine.state (chars (laid (left l.initial.piece-iterator)))) ≡ cooked l.self.kind l.self.inner.now)
+    × Sofar 0 l.writer.end l.writer.machine.state (chars (laid (left l.piece-iterator))) l.out l.initial.out (feed l.initial.writer.machine.state (chars (laid (left l.initial.piece-iterator))))
