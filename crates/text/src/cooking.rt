@@ -29,9 +29,9 @@ impl<'a> Literal<'a> {
         ensures small { IfOk result (λ n. n ≤ 4 * 65536) }
         ensures fills { IfOk result (λ n. n ≤ length out.old → out.new ≡ onto (from_ok (cooked self.entry.kind self.entry.inner.now)) out.old) }
     {
-        let mut writer = Writer::new(self.kind.processes_escape_sequences());
+        let mut writer = Writer::new(out, self.kind.processes_escape_sequences());
         for piece in self.pieces() {
-            writer.write(piece, out)?;
+            writer.write(piece)?;
         }
         writer.end()
     }

@@ -25,46 +25,54 @@ fn put(c: char, at: usize, out: &mut [u8]) -> usize
 
 // What unescaping gives is laid into a buffer up to a place, as far as all of it fits. Where it is refused, the state is open.
 #[derive(Drop)]
-pub(crate) struct Writer {
+pub(crate) struct Writer<'a> {
     machine: Unescape,
+    out: &'a mut [u8],
     end: usize,
 }
 
-impl Writer {
+impl<'a> Writer<'a> {
     // At the start of a buffer, with escape sequences or without.
-    pub(crate) fn new(escapes: bool) -> Self
+    pub(crate) fn new(out: &'a mut [u8], escapes: bool) -> Self
         ensures state { result.machine.state ≡ (if escapes then Initial else Raw) }
         ensures end { result.end ≡ 0 }
+        ensures over { result.out.now ≡ out.old }
+        ensures same_reference { result.out.ghost_name ≡ out.entry.ghost_name }
     {
         Writer {
             machine: Unescape::new(escapes),
+            out,
             end: 0,
         }
     }
 
     // What a character gives.
-    fn place(&mut self, c: char, out: &mut [u8]) -> Result<(), Escape>
+    fn place(&mut self, c: char) -> Result<(), Escape>
         requires { self.old.end < 2 ^ 32 }
         ensures gives { MatchResult result (λ _. summed self.old.end (feed self.old.machine.state (c ∷ [])) ≡ Ok (self.new.machine.state, self.new.end)) (λ e. summed self.old.end (feed self.old.machine.state (c ∷ [])) ≡ Err e) }
         ensures near { self.new.end ≤ self.old.end + 4 }
-        ensures writes { IfOk result (λ _. self.new.end ≤ length out.old → out.new ≡ over self.old.end (bytes_of (feed self.old.machine.state (c ∷ []))) out.old) }
+        ensures writes { IfOk result (λ _. self.new.end ≤ length self.old.out.now → self.new.out.now ≡ over self.old.end (bytes_of (feed self.old.machine.state (c ∷ []))) self.old.out.now) }
+        ensures same_length { length self.new.out.now ≡ length self.old.out.now }
+        ensures same_reference { self.new.out.ghost_name ≡ self.old.out.ghost_name }
     {
         if let Some(given) = self.machine.step(c)? {
-            self.end = put(given, self.end, out);
+            self.end = put(given, self.end, self.out);
         }
         Ok(())
     }
 
     // What a piece of text gives.
-    pub(crate) fn write(&mut self, text: &str, out: &mut [u8]) -> Result<(), Escape>
+    pub(crate) fn write(&mut self, text: &str) -> Result<(), Escape>
         requires { self.old.end + 4 * length text.now < 2 ^ 32 }
         ensures gives { MatchResult result (λ _. summed self.old.end (feed self.old.machine.state (chars text.now)) ≡ Ok (self.new.machine.state, self.new.end)) (λ e. summed self.old.end (feed self.old.machine.state (chars text.now)) ≡ Err e) }
         ensures near { IfOk result (λ _. self.new.end ≤ self.old.end + 4 * length text.now) }
-        ensures writes { IfOk result (λ _. self.new.end ≤ length out.old → out.new ≡ over self.old.end (bytes_of (feed self.old.machine.state (chars text.now))) out.old) }
+        ensures writes { IfOk result (λ _. self.new.end ≤ length self.old.out.now → self.new.out.now ≡ over self.old.end (bytes_of (feed self.old.machine.state (chars text.now))) self.old.out.now) }
+        ensures same_length { length self.new.out.now ≡ length self.old.out.now }
+        ensures same_reference { self.new.out.ghost_name ≡ self.old.out.ghost_name }
         ensures utf8 { IsUtf8 text.now }
     {
         for c in text.chars() {
-            self.place(c, out)?;
+            self.place(c)?;
         }
         Ok(())
     }

@@ -15,7 +15,7 @@ pub returns-in_default-clause-writes : goal.returns-in_default-clause-writes
 returns-in_default-clause-writes c =
     let s = c.args.self.now in
     let p = stepped s.machine.state _ c.args.c c.in_ok-given.ensures.moves s.end c.in_ok-given.field-0 c.in_ok-given.ensures.gives in
-    λ _. sym (ap (λ bs. over s.end bs c.args.out.now) (p.1 ∙ ap emit c.in_default.is) ∙ over_none s.end c.args.out.now)
+    λ _. sym (ap (λ bs. over s.end bs s.out.now) (p.1 ∙ ap emit c.in_default.is) ∙ over_none s.end s.out.now)
 
 pub returns-in-Some-clause-gives : goal.returns-in-Some-clause-gives
 returns-in-Some-clause-gives c =
@@ -27,4 +27,4 @@ pub returns-in-Some-clause-writes : goal.returns-in-Some-clause-writes
 returns-in-Some-clause-writes c =
     let s = c.args.self.now in
     let p = stepped s.machine.state _ c.args.c c.in_ok-given.ensures.moves s.end c.in_ok-given.field-0 c.in_ok-given.ensures.gives in
-    λ h. c.put-self.ensures.writes h ∙ ap (λ bs. over s.end bs c.args.out.now) (sym (p.1 ∙ ap emit c.in-Some.is))
+    λ h. c.put-self.ensures.writes h ∙ ap (λ bs. over s.end bs s.out.now) (sym (p.1 ∙ ap emit c.in-Some.is))

@@ -38,7 +38,8 @@ loop-c-preserved c =
       tt,
       IsUtf8-past_char _ _ _ c.loop-c.invariant.2 e,
       omega (arith, n, c.in_ok-place.ensures.near, c.loop-c.invariant.3),
-      sofar_on (c.in-Some.c ∷ []) _ so _ _ _ c.in_ok-place.ensures.gives c.in_ok-place.ensures.writes c.place.auto.out,
+      sofar_on (c.in-Some.c ∷ []) _ so _ _ _ c.in_ok-place.ensures.gives c.in_ok-place.ensures.writes c.in_ok-place.ensures.same_length,
+      c.in_ok-place.ensures.same_reference ∙ c.loop-c.invariant.5,
     )
 
 pub returns-clause-gives : goal.returns-clause-gives

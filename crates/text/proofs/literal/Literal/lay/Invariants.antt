@@ -12,4 +12,5 @@ abbrev pub invariant-loop-piece : goal.invariant-loop-piece
 invariant-loop-piece l =
     (l.writer.end + 4 * length l.piece-iterator.rest.now ≤ 4 * 65536)
     × (close (feed l.initial.writer.machine.state (chars (laid (left l.initial.piece-iterator)))) ≡ cooked l.self.kind l.self.inner.now)
-    × Sofar 0 l.writer.end l.writer.machine.state (chars (laid (left l.piece-iterator))) l.out l.initial.out (feed l.initial.writer.machine.state (chars (laid (left l.initial.piece-iterator))))
+    × Sofar 0 l.writer.end l.writer.machine.state (chars (laid (left l.piece-iterator))) l.writer.out.now l.initial.writer.out.now (feed l.initial.writer.machine.state (chars (laid (left l.initial.piece-iterator))))
+    × (l.writer.out.ghost_name ≡ l.initial.writer.out.ghost_name)
