@@ -231,7 +231,7 @@ fn by_rule(rule: Rule, around: Around, ahead: &[u8]) -> Found
     }
 }
 
-// What the general table finds.
+// What the general table finds. What is open and what lies ahead come apart, as most rules look at one of them.
 #[tactic(auto, using(rules::proofs::Picked::picked))]
 pub fn general(around: Around, ahead: &[u8]) -> Found
     ensures { result ≡ general_of around ahead.now }
