@@ -15,7 +15,7 @@ fn main(rt: HostRuntime) -> anyhow::Result<()> {
     Ok(())
 }
 
-// The line for one literal.
+// The line for one literal. The text is no longer than the literal; `unquote` has such a buffer too, and writes it out as it is.
 fn answer(heap: Global, line: &str) -> anyhow::Result<String> {
     let literal = words::line(heap, line)?;
     let mut buffer = vec![in heap; 0u8; literal.len()]?;

@@ -26,7 +26,7 @@ pub fn glance_past<S: TokenSource>(below: &mut S) -> Result<Option<Token>, Fault
     Ok(None)
 }
 
-// The same, and that token is taken off.
+// The same, and that token is taken off: by `glance_past` and a `next` it would be found twice.
 pub fn next_past<S: TokenSource>(below: &mut S) -> Result<Option<Token>, Fault>
     ensures { Nexts (sifted S.TokenSource.meaning) (Past S.TokenSource.meaning S.TokenSource.stays S.TokenSource.moves) below.old result below.new }
 {
