@@ -94,6 +94,7 @@ impl Writer<'_> {
         self.put(b"|\n");
     }
 
+    // Laid here and not by Display: what formats may refuse, and a line is laid without refusing.
     fn fault(&mut self, fault: Fault)
         ensures writes { Writes (ended (fault_text (refusal fault))) self.old self.new }
         ensures short { length (ended (fault_text (refusal fault))) ≤ 61 }

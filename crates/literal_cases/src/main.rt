@@ -1,4 +1,4 @@
-// Unquotes a list of literals, one for each line of standard input in hexadecimal, and prints for each the place, length and bytes of its text, or its fault.
+// Unquotes a list of literals, one for each line of standard input in hexadecimal (`61*65536` stands for 65,536 bytes 61), and prints for each the place, length and bytes of its text, or its fault.
 
 #![tactic(auto)]
 

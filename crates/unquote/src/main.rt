@@ -12,6 +12,7 @@ fn main(rt: HostRuntime) -> anyhow::Result<()> {
     let mut input = Vec::new(heap);
     rt.stdin().read_to_end(&mut input)?;
     let literal = input.strip_suffix(b"\n").unwrap_or(input.as_slice());
+    // The text is no longer than the literal. It goes out as it is, where `literal_cases` prints its bytes, so each has a buffer of its own.
     let mut buffer = vec![in heap; 0u8; literal.len()]?;
     match unquoted(literal, buffer.as_mut_slice()) {
         Ok(n) => {
