@@ -63,13 +63,30 @@ def grep(root, title, pattern, flags=0):
     print(f"  = {n}")
 
 
-def point1(root):
-    grep(root, "1a own enums", r"^(?:pub )?enum \w+.*?^\}", re.S)
-    grep(root, "1b a method that changes something and answers a flag", r"fn \w+\(&mut self[^)]*\) -> bool")
-    grep(root, "1c a number that tells that there is none", r"^ *// .*\b0 (?:where|tells|if)\b.*")
-    grep(root, "1d numbers for kinds", r"^.*\) -> u8$|^.* as u8 == .*|^ +\*?self as u\d+$")
-    grep(root, "1e errors handed on by hand", r"^.*Err\((?:\w+)\) => (?:return )?Err\(.*|^ *None => (?:return )?Err\(.*|^ *(?:None => Ok\(None\)|Ok\(None\) => \{\}|Ok\(\w+\) => \w+),")
-    grep(root, "1f flags in records", r"^    pub(?:\(crate\))? \w+: bool,")
+# What a search alone finds: for each point, a title, a pattern and its flags.
+SEARCHES = {
+    "1": (
+        ("1a own enums", r"^(?:pub )?enum \w+.*?^\}", re.S),
+        ("1b a method that changes something and answers a flag", r"fn \w+\(&mut self[^)]*\) -> bool"),
+        ("1c a number that tells that there is none", r"^ *// .*\b0 (?:where|tells|if)\b.*"),
+        ("1d numbers for kinds", r"^.*\) -> u8$|^.* as u8 == .*|^ +\*?self as u\d+$"),
+        ("1e errors handed on by hand", r"^.*Err\((?:\w+)\) => (?:return )?Err\(.*|^ *None => (?:return )?Err\(.*|^ *(?:None => Ok\(None\)|Ok\(None\) => \{\}|Ok\(\w+\) => \w+),"),
+        ("1f flags in records", r"^    pub(?:\(crate\))? \w+: bool,"),
+    ),
+    "3": (
+        ("3 loops that are no `for`", r"^ *(?:while|loop)\b.*"),
+    ),
+    "4": (
+        ("4a traits written by hand", r"^impl(?:<[^>]*>)? (?:PartialEq|Eq|PartialOrd|Ord|Clone|Copy|Default|From|TryFrom|Display|fmt::Display|Debug)\b.*"),
+        ("4c the first place and other defaults written out", r"^ *offset: 0,$"),
+        ("4d faults written out", r"^ *Fault \{$"),
+        ("4e format strings", r"^ *format!\(in.*"),
+    ),
+    "6": (
+        ("6a a table or a row with a number beside it in a record", r"^(?:pub )?struct \w+[^{]*\{[^}]*(?:\[\w+\]|Stack<)[^}]*(?:usize|u32),[^}]*\}", re.S),
+        ("6b arrays and buffers of a fixed length", r"^.*(?:; [A-Z_]+\]|vec!\[in).*"),
+    ),
+}
 
 
 def point2(root):
@@ -99,12 +116,7 @@ def point2(root):
     print(f"  = {n}")
 
 
-def point3(root):
-    grep(root, "3 loops that are no `for`", r"^ *(?:while|loop)\b.*")
-
-
 def point4(root):
-    grep(root, "4a traits written by hand", r"^impl(?:<[^>]*>)? (?:PartialEq|Eq|PartialOrd|Ord|Clone|Copy|Default|From|TryFrom|Display|fmt::Display|Debug)\b.*")
     print("4b conversions, tests and printing under another name: a function that is one match or one chain of tests with a value in each arm")
     n = 0
     for path, text in sources(root):
@@ -115,9 +127,6 @@ def point4(root):
                 say(path, line, signature)
                 n += 1
     print(f"  = {n}")
-    grep(root, "4c the first place and other defaults written out", r"^ *offset: 0,$")
-    grep(root, "4d faults written out", r"^ *Fault \{$")
-    grep(root, "4e format strings", r"^ *format!\(in.*")
 
 
 def point5(root):
@@ -147,11 +156,6 @@ def point5(root):
             n += 1
             print(f"  {crate}: ({a}, {b}): {', '.join(sorted(where))}")
     print(f"  = {n}")
-
-
-def point6(root):
-    grep(root, "6a a table or a row with a number beside it in a record", r"^(?:pub )?struct \w+[^{]*\{[^}]*(?:\[\w+\]|Stack<)[^}]*(?:usize|u32),[^}]*\}", re.S)
-    grep(root, "6b arrays and buffers of a fixed length", r"^.*(?:; [A-Z_]+\]|vec!\[in).*")
 
 
 def point7(root):
@@ -191,7 +195,10 @@ def main():
         else:
             root = pathlib.Path(word).resolve()
     for p in points:
-        globals()["point" + p](root)
+        for search in SEARCHES.get(p, ()):
+            grep(root, *search)
+        if "point" + p in globals():
+            globals()["point" + p](root)
 
 
 if __name__ == "__main__":
