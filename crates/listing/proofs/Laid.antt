@@ -1,5 +1,5 @@
 -- Laying bytes piece by piece.
-use Rattle.std.proofs.Common.{◌≡◌, ℕ, zero, suc, ◌+◌, ◌-◌, ◌^◌, ◌<◌, ◌≤◌, List, [], ◌∷◌, ◌++◌, length, take, drop, min, refl, ap, ◌∙◌, arith}
+use Rattle.std.proofs.Common.{◌≡◌, ℕ, zero, suc, ◌+◌, ◌-◌, ◌^◌, ◌<◌, ◌≤◌, List, [], ◌∷◌, ◌++◌, length, take, drop, set, min, refl, ap, ◌∙◌, arith}
 use Rattle.std.proofs.lemmas.List.{length-append}
 use Rattle.listing.specs.Laying.{laid}
 use Rattle.listing.specs.Writers.{Writes}
@@ -36,6 +36,17 @@ laid_whole [] [] h = refl
 laid_whole [] (o ∷ out) h = refl
 laid_whole (b ∷ bs) [] h = absurd (omega arith)
 laid_whole (b ∷ bs) (o ∷ out) h = ap (λ l. b ∷ l) (laid_whole bs out (omega arith))
+
+-- one byte
+pub laid_one : (out : List ℕ) (at b : ℕ) → at < length out → set out at b ≡ laid out at (b ∷ [])
+laid_one [] at b h = absurd (omega arith)
+laid_one (o ∷ out) (suc at) b h = ap (λ l. o ∷ l) (laid_one out at b (omega arith))
+laid_one (o ∷ []) zero b h = refl
+laid_one (o ∷ p ∷ out) zero b h = refl
+
+-- one byte behind another
+pub laid_pair : (out : List ℕ) (at a b : ℕ) → at < length out → laid (set out at a) (at + 1) (b ∷ []) ≡ laid out at (a ∷ b ∷ [])
+laid_pair out at a b h = ap (λ l. laid l (at + 1) (b ∷ [])) (laid_one out at a h) ∙ laid_on out at (a ∷ []) (b ∷ [])
 
 -- where nothing is left to lay over, all stays
 pub laid_past : (out : List ℕ) (at : ℕ) (bs : List ℕ) → length out ≤ at → out ≡ laid out at bs

@@ -1,11 +1,10 @@
 // A writer over the caller's bytes.
 
-ghost use Rattle.std.specs.Prelude.{◌≡◌, ◌^◌, ◌<◌, length, decimal};
+ghost use Rattle.std.specs.Prelude.{◌≡◌, ◌^◌, ◌<◌, [], ◌∷◌, length, decimal};
 ghost use Rattle.listing.specs.Laying.{laid};
 ghost use Rattle.listing.specs.Lines.{field as field_of, printed, shown as shown_as};
 
 use itoa::Buffer;
-use std::slice;
 
 // Lays bytes over a buffer as far as there is room, and keeps the place behind them. Past the end it only counts.
 #[derive(Drop)]
@@ -49,33 +48,68 @@ impl<'a> Writer<'a> {
         self.put(Buffer::new().format(n).as_bytes());
     }
 
+    // One byte: stored, since a copy of one byte is a call, and a lexeme is printed byte by byte.
+    fn push(&mut self, b: u8)
+        ensures { Writes (b ∷ []) self.old self.new }
+    {
+        store(self.out, self.place, b);
+        self.place = self.place.saturating_add(1);
+    }
+
     // A number in decimal, and a byte behind it.
     pub(crate) fn field(&mut self, n: u32, b: u8)
         ensures { Writes (field_of n b) self.old self.new }
     {
         self.number(n);
-        self.put(&[b]);
+        self.push(b);
     }
 
-    // Bytes as they are shown: line feed, carriage return and tab by a backslash and a letter.
+    // A backslash and a letter, with the place moved once.
+    fn escape(&mut self, letter: u8)
+        ensures { Writes (92 ∷ letter ∷ []) self.old self.new }
+    {
+        store_pair(self.out, self.place, b'\\', letter);
+        self.place = self.place.saturating_add(2);
+    }
+
+    // A byte as it is shown: line feed, carriage return and tab by a backslash and a letter.
+    fn show(&mut self, b: u8)
+        ensures { Writes (shown_as b) self.old self.new }
+    {
+        match b {
+            b'\n' => self.escape(b'n'),
+            b'\r' => self.escape(b'r'),
+            b'\t' => self.escape(b't'),
+            _ => self.push(b),
+        }
+    }
+
+    // Bytes as they are shown.
     pub(crate) fn print(&mut self, bytes: &[u8])
         ensures { Writes (printed bytes.now) self.old self.new }
     {
         for b in bytes {
-            self.put(shown(b));
+            self.show(*b);
         }
     }
 }
 
-// A byte as it is shown.
-fn shown(b: &u8) -> &[u8]
-    ensures { result.now ≡ shown_as b.now }
+// Lays one byte over others at a place, if they reach so far.
+fn store(out: &mut [u8], place: usize, b: u8)
+    ensures { out.new ≡ laid out.old place (b ∷ []) }
 {
-    match b {
-        b'\n' => b"\\n",
-        b'\r' => b"\\r",
-        b'\t' => b"\\t",
-        _ => slice::from_ref(b),
+    if place < out.len() {
+        out[place] = b;
+    }
+}
+
+// Lays two, the second where the first has room.
+fn store_pair(out: &mut [u8], place: usize, a: u8, b: u8)
+    ensures { out.new ≡ laid out.old place (a ∷ b ∷ []) }
+{
+    if place < out.len() {
+        out[place] = a;
+        store(out, place + 1, b);
     }
 }
 

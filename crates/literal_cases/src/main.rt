@@ -1,4 +1,4 @@
-// Unquotes a list of literals, one for each line of standard input in hexadecimal (`61*65536` stands for 65,536 bytes 61), and prints for each the place, length and bytes of its text, or its fault.
+// Unquotes a list of literals, one for each line of standard input in hexadecimal, and prints for each the place, length and bytes of its text, or its fault.
 
 #![tactic(auto)]
 
@@ -15,9 +15,12 @@ fn main(rt: HostRuntime) -> anyhow::Result<()> {
     Ok(())
 }
 
-// The line for one literal. The text is no longer than the literal; `unquote` has such a buffer too, and writes it out as it is.
+// The line for one literal. Each of its words is one byte: a count, as `words` reads it, is refused here. The text is no longer than the literal; `unquote` has such a buffer too, and writes it out as it is.
 fn answer(heap: Global, line: &str) -> anyhow::Result<String> {
-    let literal = words::line(heap, line)?;
+    let mut literal = Vec::new(heap);
+    for word in line.split_whitespace() {
+        literal.push(u8::from_str_radix(word, 16)?)?;
+    }
     let mut buffer = vec![in heap; 0u8; literal.len()]?;
     match unquoted(literal.as_slice(), buffer.as_mut_slice()) {
         Ok(n) => {

@@ -1,8 +1,8 @@
 -- What beginning with other bytes means.
-use Rattle.std.proofs.Common.{◌≡◌, ℕ, ◌+◌, ◌≤◌, true, cond, ◌&&◌, eqb, List, [], ◌∷◌, length, take, refl, ap, arith}
+use Rattle.std.proofs.Common.{◌≡◌, ℕ, suc, ◌+◌, ◌≤◌, Bool, true, false, cond, ◌&&◌, eqb, List, [], ◌∷◌, length, take, refl, ap, ◌∙◌, arith}
 use Rattle.std.specs.Cmp.Lexicographic.{pointwise}
 use Rattle.std.specs.List.{common_prefix_len, prefix_len, zip}
-use Rattle.std.proofs.lemmas.Bool.{and_parts, false≢true}
+use Rattle.std.proofs.lemmas.Bool.{and_parts, ne_eqb, false≢true}
 use Rattle.std.proofs.lemmas.Bool.Decides.{nat_tests}
 use Rattle.scan.specs.Prefix.{begins}
 
@@ -14,6 +14,20 @@ pub begins_pointwise : (ps bs : List ℕ) → pointwise eqb ps (take (length ps)
 begins_pointwise [] bs = refl
 begins_pointwise (p ∷ ps) [] = refl
 begins_pointwise (p ∷ ps) (b ∷ bs) = (λ i. eqb_sym p b i && begins_pointwise ps bs i)
+
+eqb_suc : (m n : ℕ) → eqb (1 + m) (suc n) ≡ eqb m n
+eqb_suc m n = grind (arith, nat_tests)
+
+-- the common beginning is the whole prefix
+pub common_begins : (bs ps : List ℕ) → eqb (common_prefix_len eqb bs ps) (length ps) ≡ begins ps bs
+common_begins [] [] = refl
+common_begins (b ∷ bs) [] = refl
+common_begins [] (p ∷ ps) = ne_eqb 0 (suc (length ps)) (λ e. omega arith)
+common_begins (b ∷ bs) (p ∷ ps) = by (eqb b p) (common_begins bs ps)
+  where
+    by : (t : Bool) → eqb (common_prefix_len eqb bs ps) (length ps) ≡ begins ps bs → eqb (cond t (1 + common_prefix_len eqb bs ps) 0) (suc (length ps)) ≡ (t && begins ps bs)
+    by true e = eqb_suc (common_prefix_len eqb bs ps) (length ps) ∙ e
+    by false e = ne_eqb 0 (suc (length ps)) (λ q. omega arith)
 
 -- the pairs that agree, from the front on
 pub common_pairs : (xs ys : List ℕ) → prefix_len (λ p. eqb p.0 p.1) (zip xs ys) ≡ common_prefix_len eqb xs ys

@@ -72,8 +72,8 @@ fn alike(a: &[u8], b: &[u8]) -> usize
     a.iter().zip(b).take_while(|(x, y)| x == y).count()
 }
 
-// Whether bytes begin with others: the definition's word for the library's `starts_with`.
-#[tactic(auto, using(crate::proofs::Prefixes::begins_pointwise))]
+// Whether bytes begin with others: the definition's word for the library's `starts_with`. By `common` it would be `common_begins` that says so, which the edit of this function goes by.
+#[tactic(auto, using(crate::proofs::Prefixes::begins_pointwise, crate::proofs::Prefixes::common_begins))]
 pub fn starts(bytes: &[u8], prefix: &[u8]) -> bool
     ensures { result ≡ begins prefix.now bytes.now }
 {

@@ -4,11 +4,11 @@ use Rattle.std.proofs.lemmas.List.{length-take, reverse-append, take_more, nil_f
 use Rattle.stack.specs.Held.{behind}
 
 -- one more entry taken in is the newest
-newest : {T : Type 0} (xs : List T) (n : ℕ) (d : T) → n < length xs → reverse (take (n + 1) xs) ≡ get_or xs n d ∷ reverse (take n xs)
+pub newest : {T : Type 0} (xs : List T) (n : ℕ) (d : T) → n < length xs → reverse (take (n + 1) xs) ≡ get_or xs n d ∷ reverse (take n xs)
 newest xs n d h = ap reverse (take_more xs n d h) ∙ reverse-append (take n xs) (get_or xs n d ∷ [])
 
 -- the entries counted are the entries there are
-clamped : {T : Type 0} (k : ℕ) (xs : List T) → take (length (take k xs)) xs ≡ take k xs
+pub clamped : {T : Type 0} (k : ℕ) (xs : List T) → take (length (take k xs)) xs ≡ take k xs
 clamped zero xs = refl
 clamped (suc k) [] = refl
 clamped (suc k) (x ∷ xs) = ap (λ ys. x ∷ ys) (clamped k xs)

@@ -5,7 +5,7 @@ use Rattle.rules.specs.Found.{Move, Pass}
 use Rattle.rules.specs.Scans.{moves, scan}
 
 -- what is owed is passed, as far as bytes are there
-paid : (m : Bool → List ℕ → Move) (k : ℕ) (e : Bool) (s : List ℕ) (j : ℕ) → j ≡ min k (length s) → scan m k e s ≡ j + scan m 0 e (drop j s)
+pub paid : (m : Bool → List ℕ → Move) (k : ℕ) (e : Bool) (s : List ℕ) (j : ℕ) → j ≡ min k (length s) → scan m k e s ≡ j + scan m 0 e (drop j s)
 paid m zero e s j h = grind arith
 paid m (suc k) e [] j h = let z : j ≡ 0 = omega arith in rw z (refl)
 paid m (suc k) e (c ∷ s) j h =

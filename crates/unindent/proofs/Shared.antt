@@ -3,7 +3,7 @@ use Rattle.std.proofs.Common.{◌≡◌, ℕ, ◌<◌, ◌≤◌, Bool, true, fa
 use Rattle.std.specs.List.{common_prefix_len, prefix_len}
 use Rattle.std.proofs.lemmas.List.{length-take-le}
 use Rattle.std.proofs.lemmas.List.Sums.{common_prefix_len-le, prefix_len-le-length}
-use Rattle.std.proofs.lemmas.Bool.{and_from, le-leb}
+use Rattle.std.proofs.lemmas.Bool.{and_from, le-leb, or_right}
 use Rattle.scan.specs.Classes.{gap}
 use Rattle.unindent.specs.Lines.{blank, indent, meet, met, shares, shared_from, indentation, roomy, all_roomy, or_none, lines}
 use Rattle.unindent.specs.Cuts.{first_line_length}
@@ -54,6 +54,11 @@ all_room_from o (l ∷ ls) =
 
 pub all_room : (ls : List (List ℕ)) → all_roomy (length (indentation ls)) ls ≡ true
 all_room ls = all_room_from None ls
+
+-- where none is removed there is room
+pub none_room : (ls : List (List ℕ)) → all_roomy 0 ls ≡ true
+none_room [] = refl
+none_room (l ∷ ls) = and_from (roomy 0 l) (all_roomy 0 ls) (or_right (blank l) _ (le-leb 0 (prefix_len gap l) (omega arith))) (none_room ls)
 
 -- one line more is taken in
 pub share_more : (o p : Option (List ℕ)) (rest line after : List ℕ) → 0 < length rest → line ≡ take (first_line_length rest) rest → after ≡ drop (first_line_length rest) rest → p ≡ shares o line

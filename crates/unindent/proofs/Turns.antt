@@ -40,10 +40,10 @@ module _ (n : ℕ) (rest line after : List ℕ) (h : 0 < length rest) (l : line 
   pub line_room : all_roomy n (lines rest) ≡ true → roomy n line ≡ true
   line_room e = (parts e).0
 
-  after_room : all_roomy n (lines rest) ≡ true → all_roomy n (lines after) ≡ true
+  pub after_room : all_roomy n (lines rest) ≡ true → all_roomy n (lines after) ≡ true
   after_room e = (parts e).1
 
-  next_piece : (first last : Bool) (p : List ℕ) → last ≡ eqb (length after) 0 → p ≡ piece first last n line → pieces first n (lines rest) ≡ p ∷ pieces false n (lines after)
+  pub next_piece : (first last : Bool) (p : List ℕ) → last ≡ eqb (length after) 0 → p ≡ piece first last n line → pieces first n (lines rest) ≡ p ∷ pieces false n (lines after)
   next_piece first last p t e =
       ap (pieces first n) split ∙ ap (λ q. q ∷ pieces false n (lines after)) (ap (λ b. piece first b n line) (no_lines after ∙ sym t) ∙ sym e)
 

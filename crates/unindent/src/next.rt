@@ -50,7 +50,8 @@ impl<'a> Pieces<'a> {
         }
     }
 
-    // A text as it stands, in one piece.
+    // A text as it stands, in one piece. The lemma is for the edit that takes it for lines with nothing to remove.
+    #[tactic(auto, using(crate::proofs::Shared::none_room))]
     pub fn whole(text: &'a str) -> Self
         ensures of { result.rest.now ≡ text.now }
         ensures gives { left result ≡ whole_of text.now }

@@ -10,7 +10,7 @@ use thiserror::Error;
 pub enum WordError {
     #[error(transparent)]
     Number(ParseIntError),
-    #[error("out of memory")]
+    #[error("memory allocation failed")]
     OutOfMemory,
 }
 

@@ -33,7 +33,11 @@ pub fn append(bytes: &mut Vec<u8>, word: &str) -> Result<(), WordError>
     let (byte, count) = parts(word);
     let byte = u8::from_str_radix(byte, 16)?;
     let count = count.parse::<u32>()?;
-    bytes.resize(bytes.len() + count as usize, byte)?;
+    let length = bytes.len() + count as usize;
+    // Room as appending them one by one makes it: doubled from what another count needed, it would come to more.
+    let room = length.checked_next_power_of_two().unwrap_or(length);
+    bytes.reserve_exact(room.saturating_sub(bytes.len()))?;
+    bytes.resize(length, byte)?;
     Ok(())
 }
 

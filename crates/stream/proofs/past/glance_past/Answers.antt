@@ -20,14 +20,14 @@ returns g c =
     let h = subst (λ o. Glances g.S.TokenSource.meaning g.S.TokenSource.stays c.loop-t.below (Ok o) c.glance.new.self) c.in_default.is c.in_ok-t.ensures in
     shown _ _ _ _ c.loop-t.below c.glance.new.self (Ok None) c.loop-t.invariant tt h
 
-pub returns-then-not-is_blank : goal.returns-then-not-is_blank
-returns-then-not-is_blank g c =
+pub returns-then-not-is_of : goal.returns-then-not-is_of
+returns-then-not-is_of g c =
     let h = subst (λ o. Glances g.S.TokenSource.meaning g.S.TokenSource.stays c.loop-t.below (Ok o) c.glance.new.self) c.in-Some.is c.in_ok-t.ensures in
-    shown _ _ _ _ c.loop-t.below c.glance.new.self (Ok (Some c.in-Some.t)) c.loop-t.invariant (sym c.if-not-is_blank.ensures) h
+    shown _ _ _ _ c.loop-t.below c.glance.new.self (Ok (Some c.in-Some.t)) c.loop-t.invariant (sym c.if-not-is_of.ensures) h
 
 pub loop-t-preserved : goal.loop-t-preserved
 loop-t-preserved g c =
     let h = subst (λ o. Glances g.S.TokenSource.meaning g.S.TokenSource.stays c.loop-t.below (Ok o) c.glance.new.self) c.in-Some.is c.in_ok-t.ensures in
     going_passes _ _ _ _ c.glance.new.self c.next.new.self c.in-Some.t
     (going_looks _ _ _ _ c.loop-t.below c.glance.new.self c.loop-t.invariant h.leaves h.keeps)
-    (ap tell h.leaves ∙ sym h.gives) (sym c.if-not-is_blank.ensures) c.next.ensures.leaves c.next.ensures.steps
+    (ap tell h.leaves ∙ sym h.gives) (sym c.if-not-is_of.ensures) c.next.ensures.leaves c.next.ensures.steps
