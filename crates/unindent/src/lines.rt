@@ -63,8 +63,10 @@ pub(crate) fn indentation(text: &[u8]) -> usize
     ensures { result ≡ length (indentation_of (lines_of text.now)) }
 {
     let mut shared: Option<&[u8]> = None;
-    for line in text.split_inclusive(|b| *b == b'\n') {
+    let mut rest = text;
+    while let Some(line) = rest.split_inclusive(|b| *b == b'\n').next() {
         shared = share(shared, line);
+        rest = &rest[line.len()..];
     }
     shared.map_or(0, |run| run.len())
 }
