@@ -9,7 +9,7 @@ pub fn character(bytes: &[u8]) -> Option<usize>
     row(bytes)
 }
 
-// The length of the first row of the grammar that the bytes begin with: by itself, since what `character` means is not unfolded where it is promised. The first four rows stand apart, each with those behind it: a match on all nine at once asks how many bytes there are before it looks at the first, which takes two to five times as long.
+// The length of the first row of the grammar that the bytes begin with: by itself, since what `character` means is not unfolded where it is promised. The first four rows stand apart, each with those behind it: a match on all nine at once asks how many bytes there are before it looks at the first, which takes up to five times as long.
 fn row(bytes: &[u8]) -> Option<usize>
     ensures { result ≡ counted (among rows bytes.now) }
 {
